@@ -1,12 +1,13 @@
 -- Lists: a step of a loop over one, tests of all items, and lists joined end to end.
-use Rattle.std.proofs.Common.{◌≡◌, ℕ, suc, ◌+◌, ◌-◌, ◌≤◌, ◌&&◌, Bool, true, false, List, [], ◌∷◌, ◌++◌, length, take}
-use Rattle.std.proofs.Common.{drop, reverse, Some, refl, ap, ◌∙◌, arith, add-one, append_assoc, drop-cons}
+use Rattle.std.proofs.Common.{◌≡◌, ℕ, suc, ◌+◌, ◌-◌, ◌≤◌, ◌&&◌, ◌||◌, Bool, true, false, cond, List, [], ◌∷◌, ◌++◌}
+use Rattle.std.proofs.Common.{length, take, filter, map, drop, reverse, Some, refl, ap, ◌∙◌, arith, add-one, append_assoc, drop-cons}
 use Rattle.std.proofs.lemmas.Bool.{and_from, and_parts}
 use Rattle.std.proofs.lemmas.Grind.{common_steps}
 use Rattle.std.proofs.lemmas.List.{drop-append-le, length-drop, reverse-append, take-append-le}
 use Rattle.std.proofs.lemmas.List.Folds.{list_all-append}
 use Rattle.std.proofs.lemmas.Option.{get_or_from_slice_get, slice_get_within}
-use Rattle.std.specs.List.{AllByRecursion, flat_map, join_with_byte, list_all, position_or_len, slice_get, slice_split}
+use Rattle.std.specs.List.{AllByRecursion, flat_map, join_with_byte, list_all, list_any, position_or_len}
+use Rattle.std.specs.List.{slice_get, slice_split}
 
 -- ---- from an item on
 
@@ -20,6 +21,10 @@ drop-slice_get {X} xs i x e =
 pub list_all-drop : {X : Type 0} (test : X → Bool) (xs : List X) (i : ℕ) (x : X) → slice_get xs i ≡ Some x
     → list_all test (drop i xs) ≡ (test x && list_all test (drop (i + 1) xs))
 list_all-drop test xs i x e = ap (list_all test) (drop-slice_get xs i x e)
+
+pub slice_get-end : {X : Type 0} (xs : List X) (x : X) → slice_get (xs ++ x ∷ []) (length xs) ≡ Some x
+slice_get-end [] x = refl
+slice_get-end (y ∷ xs) x = slice_get-end xs x
 
 -- bytes that are added behind a part leave it
 pub take-drop-append : {X : Type 0} (xs more : List X) (start end : ℕ) → start ≤ end → end ≤ length xs
@@ -57,10 +62,25 @@ list_all-reverse test (x ∷ xs) e =
     ∙ and_from (list_all test (reverse xs)) (test x && true) (list_all-reverse test xs both.1)
     (and_from (test x) true both.0 refl)
 
+pub list_any-map : {X Y : Type 0} (test : Y → Bool) (f : X → Y) (xs : List X)
+    → list_any test (map f xs) ≡ list_any (λ x. test (f x)) xs
+list_any-map test f [] = refl
+list_any-map test f (x ∷ xs) = ap (λ (b : Bool). test (f x) || b) (list_any-map test f xs)
+
 pub AllByRecursion-append : {X : Type 0} (P : X → Type 0) (xs ys : List X) → AllByRecursion P xs → AllByRecursion P ys
     → AllByRecursion P (xs ++ ys)
 AllByRecursion-append P [] ys first second = second
 AllByRecursion-append P (x ∷ xs) ys first second = (first.0, AllByRecursion-append P xs ys first.1 second)
+
+pub AllByRecursion-filter : {X : Type 0} (P : X → Type 0) (test : X → Bool) (xs : List X) → AllByRecursion P xs
+    → AllByRecursion P (filter test xs)
+AllByRecursion-filter P test [] all = tt
+AllByRecursion-filter {X} P test (x ∷ xs) all = by (test x) (AllByRecursion-filter P test xs all.1)
+  where
+    by : (b : Bool) → AllByRecursion P (filter test xs)
+        → AllByRecursion P (cond b (x ∷ filter test xs) (filter test xs))
+    by true rest = (all.0, rest)
+    by false rest = rest
 
 -- ---- lists cut and joined
 

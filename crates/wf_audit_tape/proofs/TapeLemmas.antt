@@ -10,10 +10,10 @@ use Rattle.std.proofs.lemmas.Bool.Decides.{Decides-eqb, nat_tests}
 use Rattle.std.proofs.lemmas.Grind.{common_steps}
 use Rattle.std.proofs.lemmas.List.{append-nil, take-append-drop, take_at, get_or-append-add}
 use Rattle.std.proofs.lemmas.Option.{get_or_from_slice_get}
-use Rattle.std.specs.Prelude.{◌==◌, ◌&&◌, ◌||◌, not, filter, map, nat_lt, position, bytes_eq, IfOk, MatchBool}
+use Rattle.std.specs.Prelude.{◌==◌, ◌&&◌, ◌||◌, not, filter, nat_lt, position, bytes_eq, IfOk, MatchBool}
 use Rattle.std.specs.List.{list_all, list_any, position_or_len, slice_get}
 use Rattle.wf_book.proofs.SoloLemmas.{reply-kind, yes_or_no-answers}
-use Rattle.value_lemmas.proofs.Lists.{position_or_len-no, position_or_len-yes}
+use Rattle.value_lemmas.proofs.Lists.{list_any-map, position_or_len-no, position_or_len-yes}
 use Rattle.value_lemmas.proofs.Bytes.{bytes_eq-self}
 use Rattle.wf_text.specs.declared.memory.OutOfMemory.{OutOfMemory}
 use Rattle.wf_book.specs.declared.book.Book.{Book}
@@ -78,10 +78,6 @@ cleared-none key of m other (x ∷ xs) =
     left-over key m (key x) (of x) x (filter (λ x. not (key x && of x)) xs) (other x)
     (cleared-none key of m other xs) refl
 
-any-map : {X Y : Type 0} (m : Y → Bool) (f : X → Y) (xs : List X) → list_any m (map f xs) ≡ list_any (λ x. m (f x)) xs
-any-map m f [] = refl
-any-map m f (x ∷ xs) = ap (λ (b : Bool). m (f x) || b) (any-map m f xs)
-
 -- an entry of another origin or URL does not match
 other-entry : (question : Question) (now : ℕ) (wanted : Allowed) (one : CacheEntry)
     → is_of question.origin question.url one ≡ false
@@ -100,7 +96,7 @@ none-left : (question : Question) (now : ℕ) (wanted : Allowed) (cache : List K
     wanted
     ≡ false
 none-left question now wanted cache =
-    any-map (is_match question.origin question.url question.include now wanted) (λ (k : Keyed). k.entry)
+    list_any-map (is_match question.origin question.url question.include now wanted) (λ (k : Keyed). k.entry)
     (filter (λ (k : Keyed). bytes_eq k.key question.key) (cleared question.key question.origin question.url cache))
     ∙ cleared-none (λ (k : Keyed). bytes_eq k.key question.key)
     (λ (k : Keyed). is_of question.origin question.url k.entry)

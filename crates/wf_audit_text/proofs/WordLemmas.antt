@@ -4,7 +4,7 @@ use Rattle.std.proofs.Common.{ap, sym, ◌∙◌, arith, eq-eqb, length-append, 
 use Rattle.std.proofs.lemmas.Bool.{and_parts}
 use Rattle.std.proofs.lemmas.Bool.Decides.{Decides-eqb, nat_tests}
 use Rattle.std.proofs.lemmas.Grind.{common_steps}
-use Rattle.std.proofs.lemmas.List.{take_at}
+use Rattle.std.proofs.lemmas.List.{nil_from_length, take_at}
 use Rattle.std.proofs.lemmas.List.Sums.{passes_at_first, split_at_first}
 use Rattle.std.proofs.lemmas.Slice.Eq.{bytes_eq-Decides}
 use Rattle.std.specs.Prelude.{◌==◌, ◌+◌, not, decimal, bytes_eq, if◌then◌else◌}
@@ -31,10 +31,6 @@ colon-at (byte ∷ text) e =
 until-colon : (text : List ℕ) → lacks 58 text ≡ true → before_first is_colon (text ++ 58 ∷ []) ≡ text
 until-colon text e = take_at text (58 ∷ []) _ (colon-at text e)
 
-no-more : (rest : List ℕ) → length rest ≡ 0 → rest ≡ []
-no-more [] e = refl
-no-more (byte ∷ rest) e = absurd (omega arith)
-
 ends-in-colon : (word : List ℕ) → length (before_first is_colon word) + 1 ≡ length word
     → before_first is_colon word ++ 58 ∷ [] ≡ word
 ends-in-colon word e =
@@ -46,7 +42,7 @@ ends-in-colon word e =
     let colon : get_or word at 0 ≡ 58 = (Decides-eqb (get_or word at 0) 58).0
     (passes_at_first is_colon word 0 within) in
     let none : rest ≡ [] =
-    no-more rest (omega (arith, e, simp length-append at (ap length cut))) in
+    nil_from_length rest (omega (arith, e, simp length-append at (ap length cut))) in
     ap (λ (byte : ℕ). front ++ byte ∷ []) (sym colon)
     ∙ ap (λ (l : List ℕ). front ++ get_or word at 0 ∷ l) (sym none) ∙ sym cut
 

@@ -1,9 +1,8 @@
 -- What the clears and the redirects of a level come to, and that a step is what the runs of its process are.
-use Rattle.std.proofs.Common.{◌≡◌, ℕ, zero, suc, Bool, true, false, ◌+◌, ◌-◌, ◌<◌, ◌≤◌, Ok, Err, refl, ap, sym, ◌∙◌}
+use Rattle.std.proofs.Common.{◌≡◌, ℕ, zero, suc, Bool, true, false, ◌+◌, ◌-◌, ◌<◌, Ok, Err, refl, ap, sym, ◌∙◌}
 use Rattle.std.proofs.Common.{arith, cond, inl, inr, length, subst}
-use Rattle.std.proofs.Common.{List, [], ◌∷◌, drop, slice_get, Some, Result, IfOk, IsTrue}
+use Rattle.std.proofs.Common.{List, [], ◌∷◌, Some, Result, IfOk, IsTrue}
 use Rattle.std.proofs.lemmas.Bool.{cases_Bool, true≢false}
-use Rattle.std.proofs.lemmas.Grind.{common_steps}
 use Rattle.std.specs.Prelude.{◌==◌}
 use Rattle.url.specs.Parts.{Parts}
 use Rattle.wf_fetch_answers.specs.Endings.{ended as ended_with}
@@ -184,20 +183,6 @@ goes-on context result count made to owing next few is more same leads =
     (subst (λ (n : ℕ). Leads context result (main_fetch (again (20 - n) context) context next to)) more
     (subst (λ (then_ : Then). Leads context result (main_fetch (onward_of context to) context then_ to)) same
     (subst (λ (r : Request). Leads context result (main_fetch (onward_of context r) context owing r)) is leads)))
-
--- no violation is left past the last
-pub drop-past : {X : Type 0} (xs : List X) (i : ℕ) → length xs ≤ i → drop i xs ≡ []
-drop-past [] zero past = refl
-drop-past [] (suc i) past = refl
-drop-past (x ∷ xs) zero past = absurd (omega (arith, past))
-drop-past (x ∷ xs) (suc i) past = drop-past xs i (omega (arith, past))
-
--- what lies at a place of a list begins what is left there
-pub drop-found : {X : Type 0} (xs : List X) (i : ℕ) (x : X) → slice_get xs i ≡ Some x
-    → drop i xs ≡ x ∷ drop (i + 1) xs
-drop-found [] i x found = cc
-drop-found (y ∷ xs) zero x found = grind (arith, common_steps)
-drop-found (y ∷ xs) (suc i) x found = grind (arith, common_steps, drop-found xs i x)
 
 -- a step that is what a process does first is what its runs are
 pub does-runs : (context : Context) (step : Step) (process : Process) → Does context step process

@@ -1,10 +1,10 @@
 -- Items between commas, and values that may be there once.
-use Rattle.std.proofs.Common.{arith, ◌≡◌, ◌≤◌, ◌<◌, ◌++◌, ◌+◌, ◌∷◌, [], ℕ, zero, suc, List, length, take, drop}
-use Rattle.std.proofs.Common.{filter, ap, refl, sym, ◌∙◌, Bool, true, false, cond, Option, Some, None, ◌==◌, ◌&&◌}
-use Rattle.std.proofs.Common.{drop-cons, add-one, append_assoc}
-use Rattle.std.specs.List.{flat_map, list_all, list_any, position, position_or_len, slice_get}
+use Rattle.std.proofs.Common.{arith, ◌≡◌, ◌≤◌, ◌<◌, ◌++◌, ◌∷◌, [], ℕ, zero, suc, List, length, take, drop}
+use Rattle.std.proofs.Common.{filter, ap, refl, sym, ◌∙◌, Bool, true, false, cond, Option, Some, None, ◌==◌}
+use Rattle.std.proofs.Common.{append_assoc}
+use Rattle.std.specs.List.{flat_map, list_any, position, position_or_len}
 use Rattle.std.proofs.lemmas.Grind.{common_steps}
-use Rattle.std.proofs.lemmas.Option.{cond_some, get_or_from_slice_get, slice_get_within}
+use Rattle.std.proofs.lemmas.Option.{cond_some}
 use Rattle.wf_text.specs.Trims.{tab_or_space, trimmed}
 use Rattle.wf_headers.specs.Headers.{is_named, values_of}
 use Rattle.wf_headers.specs.declared.headers.Header.{Header}
@@ -63,9 +63,3 @@ pub tokens-some : (values : List (List ℕ)) → 0 < length values → extracted
     ≡ token_list (flat_map items values)
 tokens-some [] h = absurd (omega (arith, h))
 tokens-some (value ∷ values) h = refl
-
--- a test of the texts from an index on
-pub all-from : (test : List ℕ → Bool) (texts : List (List ℕ)) (at : ℕ) (text : List ℕ) → slice_get texts at
-    ≡ Some text → list_all test (drop at texts) ≡ (test text && list_all test (drop (at + 1) texts))
-all-from test texts at text e = ap (λ l. list_all test l) (drop-cons texts at text (slice_get_within texts at text e)
-    ∙ ap (λ (l : List ℕ). l ∷ drop (suc at) texts) (get_or_from_slice_get texts at text text e)) ∙ rw (add-one at) refl

@@ -5,6 +5,7 @@ use Rattle.std.specs.declared.cmp.Ordering.{Ordering}
 use Rattle.std.specs.declared.cmp.Ordering.TheVariants.{Equal, Greater, Less}
 use Rattle.wf_hsts.specs.Hosts.{AreSorted, with_host}
 use Rattle.std.specs.List.{AllByRecursion}
+use Rattle.value_lemmas.proofs.Lists.{AllByRecursion-append, AllByRecursion-filter}
 use Rattle.value_lemmas.proofs.Tests.{is_lt-true}
 use Rattle.wf_text.specs.Orders.{text_cmp}
 use Rattle.wf_hsts.specs.declared.hosts.KnownHost.{KnownHost}
@@ -16,21 +17,6 @@ each-map : (P Q : KnownHost → Type 0) → ((known : KnownHost) → P known →
     → AllByRecursion P hosts → AllByRecursion Q hosts
 each-map P Q f [] each = tt
 each-map P Q f (known ∷ hosts) each = (f known each.0, each-map P Q f hosts each.1)
-
-each-append : (P : KnownHost → Type 0) (a b : List KnownHost) → AllByRecursion P a → AllByRecursion P b
-    → AllByRecursion P (a ++ b)
-each-append P [] b each others = others
-each-append P (known ∷ a) b each others = (each.0, each-append P a b each.1 others)
-
-each-kept : (P : KnownHost → Type 0) (p : KnownHost → Bool) (hosts : List KnownHost) → AllByRecursion P hosts
-    → AllByRecursion P (filter p hosts)
-each-kept P p [] each = tt
-each-kept P p (known ∷ hosts) each = by (p known) (each-kept P p hosts each.1)
-  where
-    by : (kept : Bool) → AllByRecursion P (filter p hosts)
-        → AllByRecursion P (cond kept (known ∷ filter p hosts) (filter p hosts))
-    by true rest = (each.0, rest)
-    by false rest = rest
 
 each-passing : (P : KnownHost → Type 0) (p : KnownHost → Bool) → ((known : KnownHost) → p known ≡ true → P known)
     → (hosts : List KnownHost) → AllByRecursion P (filter p hosts)
@@ -49,7 +35,7 @@ sorted-kept p [] sorted = tt
 sorted-kept p (known ∷ hosts) sorted = by (p known) (sorted-kept p hosts sorted.1)
   where
     by : (kept : Bool) → AreSorted (filter p hosts) → AreSorted (cond kept (known ∷ filter p hosts) (filter p hosts))
-    by true rest = (each-kept (λ other. text_cmp known.host other.host ≡ Less) p hosts sorted.0, rest)
+    by true rest = (AllByRecursion-filter (λ other. text_cmp known.host other.host ≡ Less) p hosts sorted.0, rest)
     by false rest = rest
 
 sorted-joined : (new : KnownHost) (a b : List KnownHost) → AreSorted a → AreSorted b
@@ -58,7 +44,7 @@ sorted-joined : (new : KnownHost) (a b : List KnownHost) → AreSorted a → Are
     → AreSorted (a ++ (new ∷ b))
 sorted-joined new [] b front back before behind = (behind, back)
 sorted-joined new (known ∷ a) b front back before behind = (
-  each-append (λ other. text_cmp known.host other.host ≡ Less) a (new ∷ b) front.0 (
+  AllByRecursion-append (λ other. text_cmp known.host other.host ≡ Less) a (new ∷ b) front.0 (
     before.0,
     each-map (λ other. text_cmp new.host other.host ≡ Less)
         (λ other. text_cmp known.host other.host ≡ Less)

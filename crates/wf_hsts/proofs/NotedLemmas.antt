@@ -2,6 +2,7 @@
 use Rattle.std.proofs.Common.{◌≡◌, ◌==◌, ◌||◌, ◌<◌, ◌≤◌, ◌+◌, not, ℕ, Bool, true, false, cond, List, [], ◌∷◌, ◌++◌}
 use Rattle.std.proofs.Common.{filter, length, Option, Some, None, is_some, nat_lt, refl, ap, sym, subst, ◌∙◌}
 use Rattle.std.proofs.Common.{if◌then◌else◌, arith, length-append}
+use Rattle.std.proofs.lemmas.List.Elements.{filter-append}
 use Rattle.std.proofs.lemmas.Bool.{le-ltb, lt-ltb, ltb-false, ltb-true, ne_eqb}
 use Rattle.std.proofs.lemmas.List.Filters.{length-filter_both}
 use Rattle.std.specs.Ordering.{is_eq, is_gt, is_lt}
@@ -126,15 +127,6 @@ either-order : (p q : KnownHost → Bool) (hosts : List KnownHost) → filter p 
 either-order p q [] = refl
 either-order p q (known ∷ hosts) =
     twice-by p q known (filter q hosts) (filter p hosts) (p known) (q known) refl refl (either-order p q hosts)
-
-append-by : (known : KnownHost) (a b : List KnownHost) (x : Bool) → cond x (known ∷ (a ++ b)) (a ++ b)
-    ≡ cond x (known ∷ a) a ++ b
-append-by known a b true = refl
-append-by known a b false = refl
-
-filter-append : (p : KnownHost → Bool) (a b : List KnownHost) → filter p (a ++ b) ≡ filter p a ++ filter p b
-filter-append p [] b = refl
-filter-append p (known ∷ a) b = rw (filter-append p a b) (append-by known (filter p a) (filter p b) (p known))
 
 -- another host goes before or after
 pub with-less : (new : KnownHost) (name : List ℕ) (hosts : List KnownHost) → bytes_eq new.host name ≡ false

@@ -2,6 +2,7 @@
 use Rattle.std.proofs.Common.{◌≡◌, ◌==◌, ◌||◌, ◌≤◌, ◌<◌, ◌+◌, ◌-◌, ◌⊎◌, inl, inr, ℕ, zero, suc, Bool, true, false}
 use Rattle.std.proofs.Common.{List, [], ◌∷◌, ◌++◌, length, take, drop, get_or, reverse, refl, ap, sym, ◌∙◌, subst}
 use Rattle.std.proofs.Common.{arith, append_assoc, length-append, length-take, Some, None}
+use Rattle.std.proofs.lemmas.Option.{none-some}
 use Rattle.std.proofs.lemmas.Bool.{cases_lt, eqb-false, lt-ltb, or_parts}
 use Rattle.std.proofs.lemmas.List.{append-nil, reverse-append, reverse-reverse, same_from_push, take-append-drop}
 use Rattle.std.proofs.lemmas.List.{take-append-le, take_all, take_at, take_more}
@@ -47,9 +48,6 @@ line-to-end bytes n is =
       no_end = none-before (λ (byte : ℕ). byte == 10) bytes n at.2 (omega (arith, at.0));
     }
 
-none_some : {n : ℕ} → None ≡ Some n → ⊥
-none_some same = (cc)
-
 no-place : (bytes : List ℕ) → None ≡ position (λ (byte : ℕ). byte == 10) bytes
     → length bytes ≤ position_or_len (λ (byte : ℕ). byte == 10) bytes
 no-place bytes is = by_order (cases_lt (position_or_len (λ (byte : ℕ). byte == 10) bytes) (length bytes))
@@ -59,7 +57,7 @@ no-place bytes is = by_order (cases_lt (position_or_len (λ (byte : ℕ). byte =
         → length bytes ≤ position_or_len (λ (byte : ℕ). byte == 10) bytes
     by_order (inr le) = le
     by_order (inl less) = let t = lt-ltb (position_or_len (λ (byte : ℕ). byte == 10) bytes) (length bytes) less in
-        absurd (none_some (rw t at is))
+        absurd (none-some _ (rw t at is))
 
 -- or all of them, where there is none
 pub line-whole : (bytes : List ℕ) → 0 < length bytes → None ≡ position (λ byte. byte == 10) bytes

@@ -1,9 +1,10 @@
 -- The last essence of values that are taken one by one.
-use Rattle.std.proofs.Common.{◌≡◌, ◌+◌, ◌-◌, ℕ, zero, suc, List, [], ◌∷◌, ◌++◌, length, take, slice_get, refl, ap}
+use Rattle.std.proofs.Common.{◌≡◌, ◌+◌, ◌-◌, ℕ, zero, suc, List, [], ◌∷◌, ◌++◌, length, take, slice_get, ap}
 use Rattle.std.proofs.Common.{sym, ◌∙◌, arith, Option, Some, None, add-one, append-nil, length-append}
 use Rattle.std.proofs.lemmas.List.Elements.{filter_map-append}
 use Rattle.std.specs.List.{cons_option, filter_map}
 use Rattle.std.specs.Option.{option_or}
+use Rattle.value_lemmas.proofs.Lists.{slice_get-end}
 use Rattle.wf_mime.specs.Essence.{last_essence, last_of, specific_essence}
 
 -- one value more is taken
@@ -14,10 +15,6 @@ take-one_more (first ∷ values) zero value here =
     let same : first ≡ value = cc in
     ap (λ v. v ∷ []) same
 take-one_more (first ∷ values) (suc index) value here = ap (λ l. first ∷ l) (take-one_more values index value here)
-
-slice_get-end : (items : List (List ℕ)) (item : List ℕ) → slice_get (items ++ item ∷ []) (length items) ≡ Some item
-slice_get-end [] item = refl
-slice_get-end (first ∷ items) item = slice_get-end items item
 
 -- the last of a list with one item more, or with none
 last_of-more : (items : List (List ℕ)) (more : Option (List ℕ)) → last_of (items ++ cons_option more [])

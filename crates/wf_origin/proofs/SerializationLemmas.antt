@@ -7,10 +7,9 @@ use Rattle.std.specs.Prelude.{nat_eq}
 use Rattle.std.specs.Net.Text.{hex_groups_text, ipv4_text}
 use Rattle.std.proofs.lemmas.Slice.Eq.{bytes_eq-Decides}
 use Rattle.std.proofs.lemmas.Bool.{or_cases}
-use Rattle.std.proofs.lemmas.Bool.Decides.{Decides-eqb}
 use Rattle.std.proofs.lemmas.Grind.{common_steps}
 use Rattle.std.proofs.Math.Bool.{or-false}
-use Rattle.std.specs.Bool.{one_answer}
+use Rattle.value_lemmas.proofs.Tests.{eqb-comm}
 use Rattle.url.specs.Host as url_host
 use Rattle.url.specs.Input.{is_empty}
 use Rattle.url.specs.Origin as url_origin
@@ -30,19 +29,13 @@ record IsHttpScheme (scheme : List ℕ) : Type 0 where
   special : scheme_type scheme ≡ SpecialNotFile
   ports : (port : ℕ) → is_default_port scheme port ≡ option_eq nat_eq (default_port scheme) (Some port)
 
-same-port : (port known : ℕ) → (port == known) ≡ nat_eq known port
-same-port port known =
-    let there = Decides-eqb known port in
-    one_answer (port == known) (nat_eq known port) (Decides-eqb port known)
-    (λ e. sym (there.0 e), λ e. there.1 (sym e))
-
 at-http : IsHttpScheme (codes "http")
 unfolding default_port scheme_type
-at-http = record { no_blob = refl; special = refl; ports = λ port. or-false (port == 80) ∙ same-port port 80 }
+at-http = record { no_blob = refl; special = refl; ports = λ port. or-false (port == 80) ∙ eqb-comm port 80 }
 
 at-https : IsHttpScheme (codes "https")
 unfolding default_port scheme_type
-at-https = record { no_blob = refl; special = refl; ports = λ port. same-port port 443 }
+at-https = record { no_blob = refl; special = refl; ports = λ port. eqb-comm port 443 }
 
 -- a scheme that is http or https
 http-scheme : (scheme : List ℕ) → IsTrue (is_http scheme) → IsHttpScheme scheme

@@ -9,7 +9,7 @@ use Rattle.std.specs.Str.{bytes_eq}
 use Rattle.std.proofs.lemmas.Cmp.{tied_itself}
 use Rattle.std.proofs.lemmas.List.{length-drop, length-map}
 use Rattle.std.proofs.lemmas.List.Filters.{length-filter_both}
-use Rattle.value_lemmas.proofs.Lists.{AllByRecursion-append}
+use Rattle.value_lemmas.proofs.Lists.{AllByRecursion-append, AllByRecursion-filter}
 use Rattle.value_lemmas.proofs.Tests.{is_lt-true}
 use Rattle.wf_precache.specs.declared.entry.Allowed.{Allowed}
 use Rattle.wf_precache.specs.declared.entry.CacheEntry.{CacheEntry}
@@ -67,22 +67,12 @@ all-passing P test step (x ∷ xs) = by (test x) refl (all-passing P test step x
     by true is rest = (step x is, rest)
     by false is rest = rest
 
-all-kept : {X : Type 0} (P : X → Type 0) (test : X → Bool) (xs : List X) → AllByRecursion P xs
-    → AllByRecursion P (filter test xs)
-all-kept P test [] all = tt
-all-kept P test (x ∷ xs) all = by (test x) (all-kept P test xs all.1)
-  where
-    by : (b : Bool) → AllByRecursion P (filter test xs)
-        → AllByRecursion P (cond b (x ∷ filter test xs) (filter test xs))
-    by true rest = (all.0, rest)
-    by false rest = rest
-
 sorted-kept : (test : Keyed → Bool) (ks : List Keyed) → AreSorted ks → AreSorted (filter test ks)
 sorted-kept test [] sorted = tt
 sorted-kept test (k ∷ ks) sorted = by (test k) (sorted-kept test ks sorted.1)
   where
     by : (b : Bool) → AreSorted (filter test ks) → AreSorted (cond b (k ∷ filter test ks) (filter test ks))
-    by true rest = (all-kept (λ other. stands_before other.key k.key ≡ false) test ks sorted.0, rest)
+    by true rest = (AllByRecursion-filter (λ other. stands_before other.key k.key ≡ false) test ks sorted.0, rest)
     by false rest = rest
 
 -- two sorted lists joined are sorted where no key of the second comes before one of the first

@@ -16,6 +16,7 @@ use Rattle.std.specs.Prelude.{nat_lt}
 use Rattle.std.specs.Str.{bytes_eq}
 use Rattle.std.specs.declared.cmp.Ordering.{Ordering}
 use Rattle.std.specs.declared.cmp.Ordering.TheVariants.{Less, Equal, Greater}
+use Rattle.value_lemmas.proofs.Lists.{slice_get-end}
 use Rattle.wf_precache.specs.declared.entry.CacheEntry.{CacheEntry}
 use Rattle.wf_precache.specs.Keys.{AreSorted, ExtendsExactly, IsCache, Keyed, before, behind, entries_of, extended}
 use Rattle.wf_precache.specs.Keys.{keyed, may_stand_last, stands_before, with_entries}
@@ -117,10 +118,6 @@ filled [] ys is some =
     let none : false ≡ true = subst (λ (l : List _). false ≡ (length l == 0)) is some in absurd (cc)
 filled (x ∷ xs) ys is some = omega arith
 
-at-end : {X : Type 0} (xs : List X) (x : X) → slice_get (xs ++ x ∷ []) (length xs) ≡ Some x
-at-end [] x = refl
-at-end (y ∷ xs) x = at-end xs x
-
 -- the last, which has no entries, goes
 pub popped : {K : Type 0} (bytes : K → List ℕ) (old new : List (K × List CacheEntry))
     (result : Option (K × List CacheEntry)) (last : K) (partition entries : List CacheEntry)
@@ -131,7 +128,7 @@ popped bytes old new (Some p) last partition entries is same none gone kept =
     let at : length old - 1 ≡ length new =
     omega (arith, ap length gone, length-append new (p ∷ [])) in
     let found : Some p ≡ Some (last, partition) =
-    sym (at-end new p) ∙ (λ i. slice_get (sym gone i) (sym at i)) ∙ is in
+    sym (slice_get-end new p) ∙ (λ i. slice_get (sym gone i) (sym at i)) ∙ is in
     let nothing : p.1 ≡ [] = ap (λ q. q.1) (last-is p (last, partition) found) ∙ empty partition entries same none in
     sym (ap (listed bytes) gone ∙ ap (λ (es : List CacheEntry). listed bytes (new ++ (p.0, es) ∷ [])) nothing
     ∙ empty-last bytes p.0 new)

@@ -1,5 +1,5 @@
 -- Strictly ascending lists of texts: adding a text in its place, and that their members make them.
-use Rattle.std.proofs.Common.{◌≡◌, ◌∷◌, [], ℕ, List, map, ap, refl, sym, subst, ◌∙◌, Bool, true, false, cond}
+use Rattle.std.proofs.Common.{◌≡◌, ◌∷◌, [], ℕ, List, map, ap, refl, sym, subst, ◌∙◌, true, false, cond}
 use Rattle.std.proofs.Common.{◌||◌}
 use Rattle.std.proofs.lemmas.Cmp.{nat_list_cmp_total}
 use Rattle.std.proofs.lemmas.List.Sorted.{list_any-IsPermutation}
@@ -14,6 +14,7 @@ use Rattle.std.specs.Ordering.{is_eq, match_ordering, nat_cmp, on, ordering_reve
 use Rattle.std.specs.Str.{bytes_eq, str_to_ascii_lowercase}
 use Rattle.std.specs.declared.cmp.Ordering.{Ordering}
 use Rattle.std.specs.declared.cmp.Ordering.TheVariants.{Less, Equal, Greater}
+use Rattle.value_lemmas.proofs.Lists.{list_any-map}
 use Rattle.value_lemmas.proofs.Tests.{or-again, or-left_comm}
 use Rattle.value_lemmas.proofs.Bytes.{bytes_eq-self}
 use Rattle.wf_safelist.specs.Sets.{IsSortedLowercaseSet, sorted_lowercase_set}
@@ -164,12 +165,6 @@ unfolding IsStrictlySortedBy
 IsAscending-map text_of [] up = tt
 IsAscending-map text_of (item ∷ items) up = (IsBelow-map text_of item items up.0, IsAscending-map text_of items up.1)
 
--- a test of the texts of some items
-any-map : {X : Type 0} (test : List ℕ → Bool) (text_of : X → List ℕ) (items : List X)
-    → list_any test (map text_of items) ≡ list_any (λ item. test (text_of item)) items
-any-map test text_of [] = refl
-any-map test text_of (item ∷ items) = ap (λ v. test (text_of item) || v) (any-map test text_of items)
-
 -- taking out what is there twice takes no text away
 any-dedup_from : {X : Type 0} (text_of : X → List ℕ) (query : List ℕ) (item : X) (items : List X)
     → list_any (λ other. bytes_eq query (text_of other))
@@ -204,10 +199,10 @@ pub members-dedup : {X : Type 0} (text_of : X → List ℕ) (query : List ℕ) (
     → list_any (bytes_eq query) (map text_of (dedup (λ a b. bytes_eq (text_of a) (text_of b)) sorted))
     ≡ list_any (bytes_eq query) (map text_of items)
 members-dedup text_of query items sorted moved =
-    any-map (bytes_eq query) text_of (dedup (λ a b. bytes_eq (text_of a) (text_of b)) sorted)
+    list_any-map (bytes_eq query) text_of (dedup (λ a b. bytes_eq (text_of a) (text_of b)) sorted)
     ∙ any-dedup text_of query sorted
     ∙ sym (list_any-IsPermutation (λ other. bytes_eq query (text_of other)) items sorted moved)
-    ∙ sym (any-map (bytes_eq query) text_of items)
+    ∙ sym (list_any-map (bytes_eq query) text_of items)
 
 -- texts that ascend and have the names in lower case as their members are their set
 pub IsSortedLowercaseSet-from : (names found sorted texts : List (List ℕ)) → found ≡ map str_to_ascii_lowercase names

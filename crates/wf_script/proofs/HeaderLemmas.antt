@@ -1,7 +1,5 @@
 -- The values of a name in a header list that headers were appended to: those of another name add none.
 use Rattle.std.proofs.Common.{◌≡◌, ◌++◌, ◌∷◌, [], ℕ, List, map, ap, ◌∙◌}
-use Rattle.std.proofs.Common.{Result, Ok, Err, OnOk}
-use Rattle.std.specs.Prelude.{⊤}
 use Rattle.wf_headers.specs.Headers.{appended, values_of}
 use Rattle.wf_headers.specs.declared.headers.Header.{Header}
 use Rattle.wf_headers.proofs.ValueLemmas.{values-all_appended, values-appended}
@@ -21,8 +19,3 @@ appended-named name text value headers new pair is named valued =
     ∙ ap (λ (n : List ℕ). values_of name headers ++ values_of name (record { name = n; value = value } ∷ [])) named
     ∙ ap (λ (v : List ℕ). values_of name headers ++ values_of name (record { name = pair.name; value = v } ∷ []))
     valued
-
--- what follows from what a call ensures where it succeeds
-pub on-ok : {E : Type 0} (result : Result ⊤ E) (A B : Type 0) → (A → B) → OnOk result A → OnOk result B
-on-ok (Ok done) A B f holds = f holds
-on-ok (Err error) A B f holds = holds

@@ -11,6 +11,7 @@ use Rattle.wf_script_events.specs.Lengths.{capped, event_length}
 use Rattle.wf_script_events.specs.Lines.{event_text}
 use Rattle.wf_script_run.specs.Runs.{text_length}
 use Rattle.std.specs.Option.{option_or}
+use Rattle.value_lemmas.proofs.Lists.{slice_get-end}
 use Rattle.wf_script_events.specs.declared.events.Event.{Event}
 use Rattle.wf_script_run.specs.Results.{is_result, last_result, result_in}
 use Rattle.wf_script_run.specs.Private.Lasts.{IsLast, last_index}
@@ -27,11 +28,6 @@ get-front (e ∷ es) fs i lt =
 last-is : (es : List Event) (e : Event) → get_or (es ++ e ∷ []) (length es) e ≡ e
 last-is [] e = refl
 last-is (f ∷ es) e = last-is es e
-
-get-last : (es : List Event) (e : Event) → slice_get (es ++ e ∷ []) (length es) ≡ Some e
-get-last es e =
-    slice_get-get_or (es ++ e ∷ []) (length es) e (omega (arith, length-append es (e ∷ [])))
-    ∙ ap (λ (x : Event). let o : Option Event = Some x in o) (last-is es e)
 
 -- ---- the last result
 
@@ -56,7 +52,7 @@ is-another es e count all is = (
   omega (arith, all, length-append es (e ∷ [])),
   last-more es e
       ∙ ap (λ (b : Bool). option_or (cond b (Some e) None) (last_result es)) is
-      ∙ sym (ap (λ (n : ℕ). slice_get (es ++ e ∷ []) n) all ∙ get-last es e),
+      ∙ sym (ap (λ (n : ℕ). slice_get (es ++ e ∷ []) n) all ∙ slice_get-end es e),
 )
 
 -- or the same

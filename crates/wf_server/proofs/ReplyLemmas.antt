@@ -1,11 +1,11 @@
 -- The bytes of answers, part by part as they are written.
-use Rattle.std.proofs.Common.{◌≡◌, ◌∙◌, ap, sym, refl, ℕ, Bool, true, false, List, [], ◌∷◌, ◌++◌, append_assoc}
+use Rattle.std.proofs.Common.{◌≡◌, ◌∙◌, ap, refl, ℕ, Bool, true, false, List, [], ◌∷◌, ◌++◌, append_assoc}
 use Rattle.std.proofs.Common.{codes}
 use Rattle.std.proofs.Common.{if◌then◌else◌}
+use Rattle.std.proofs.lemmas.List.Concat.{flat_map-append}
 use Rattle.std.proofs.lemmas.List.{append-nil}
 use Rattle.std.specs.Fmt.{digits}
-use Rattle.std.specs.List.{flat_map, join_with_byte, list_all}
-use Rattle.std.specs.Prelude.{map}
+use Rattle.std.specs.List.{flat_map, join_with_byte}
 use Rattle.value_lemmas.proofs.Lists.{append-three}
 use Rattle.wf_text.specs.Ascii.{comma}
 use Rattle.wf_headers.specs.declared.headers.Header.{Header}
@@ -17,16 +17,6 @@ use Rattle.wf_server.specs.Tables.{lists}
 use Rattle.wf_server.specs.declared.table.Row.{Row}
 
 -- ---- lists
-
-flat-both : (f : Header → List ℕ) (xs ys : List Header) → flat_map f (xs ++ ys) ≡ flat_map f xs ++ flat_map f ys
-flat-both f [] ys = refl
-flat-both f (x ∷ xs) ys =
-    ap (λ (l : List ℕ). f x ++ l) (flat-both f xs ys) ∙ sym (append_assoc (f x) (flat_map f xs) (flat_map f ys))
-
-pub all-mapped : {X Y : Type 0} (test : Y → Bool) (f : X → Y) (xs : List X)
-    → list_all test (map f xs) ≡ list_all (λ x. test (f x)) xs
-all-mapped test f [] = refl
-all-mapped test f (x ∷ xs) = rw (all-mapped test f xs) refl
 
 pub in-four : (start a b c d s t u w : List ℕ) → s ≡ start ++ a → t ≡ s ++ b → u ≡ t ++ c → w ≡ u ++ d
     → w ≡ start ++ (a ++ (b ++ (c ++ d)))
@@ -82,7 +72,7 @@ pub served-bytes : (row : Row) (method : List ℕ) → reply_bytes (served row m
 unfolding digits
 served-bytes row method =
     ap (λ (l : List ℕ). codes "HTTP/1.1 200 Served\r\n" ++ (l ++ (codes "\r\n" ++ body_for method)))
-    (flat-both header_line (granted row) (content_length (codes "2") ∷ []))
+    (flat_map-append header_line (granted row) (content_length (codes "2") ∷ []))
     ∙ ap (λ (l : List ℕ). codes "HTTP/1.1 200 Served\r\n" ++ l)
     (append_assoc (flat_map header_line (granted row)) (codes "Content-Length: 2\r\n")
     (codes "\r\n" ++ body_for method))
@@ -103,8 +93,8 @@ allowed-bytes row =
     let m : List ℕ = flat_map header_line (methods_header row) in
     let n : List ℕ = flat_map header_line (names_header row) in
     ap (λ (l : List ℕ). codes "HTTP/1.1 204 Allowed\r\n" ++ (l ++ codes "\r\n"))
-    (flat-both header_line (granted row) (methods_header row ++ names_header row)
-    ∙ ap (λ (l : List ℕ). g ++ l) (flat-both header_line (methods_header row) (names_header row)))
+    (flat_map-append header_line (granted row) (methods_header row ++ names_header row)
+    ∙ ap (λ (l : List ℕ). g ++ l) (flat_map-append header_line (methods_header row) (names_header row)))
     ∙ ap (λ (l : List ℕ). codes "HTTP/1.1 204 Allowed\r\n" ++ l)
     (append_assoc g (m ++ n) (codes "\r\n") ∙ ap (λ (l : List ℕ). g ++ l) (append_assoc m n (codes "\r\n")))
 

@@ -1,6 +1,7 @@
 -- The bytes of a plain request are those of a request head, and then its body.
 use Rattle.std.proofs.Common.{◌≡◌, ℕ, true, List, [], ◌∷◌, ◌++◌, map, Contains, codes, unwrap_or, refl}
 use Rattle.std.proofs.Common.{ap, sym, ◌∙◌, arith, append_assoc, flat_map, suc}
+use Rattle.std.proofs.lemmas.List.Sums.{AllPass-from_list_all}
 use Rattle.std.proofs.lemmas.List.{length-map}
 use Rattle.std.proofs.lemmas.List.Elements.{All-from_recursion}
 use Rattle.std.specs.List.{AllByRecursion, list_all}
@@ -14,7 +15,7 @@ use Rattle.wf_types.specs.declared.hop.Hop.{Hop}
 use Rattle.wf_http1.specs.RequestHeads.{BeginsRequest, asked_of}
 use Rattle.wf_http1.specs.Requests.{header_line, request_bytes}
 use Rattle.wf_server_heard.proofs.HopLemmas.{field-first, line-first}
-use Rattle.wf_server_heard.proofs.TextLemmas.{passes, token}
+use Rattle.wf_server_heard.proofs.TextLemmas.{token}
 use Rattle.wf_server_access.specs.Access.{PlainHopsAreReadable}
 
 -- the field that a header line is
@@ -64,7 +65,7 @@ fields-are : (headers : List Header) → AllByRecursion IsPlainLine headers
     → AllByRecursion IsField (map field_of headers)
 fields-are [] all = tt
 fields-are (one ∷ more) all = (
-  record { name = token one.name all.0.0; raw = passes is_value_byte (32 ∷ one.value) all.0.1 },
+  record { name = token one.name all.0.0; raw = AllPass-from_list_all is_value_byte (32 ∷ one.value) all.0.1 },
   fields-are more all.1,
 )
 
@@ -82,7 +83,7 @@ plain-readable hop is =
       valid = record {
         head = record {
           method = token hop.method is.method;
-          target = (is.some_target, passes is_uri_byte hop.url is.target);
+          target = (is.some_target, AllPass-from_list_all is_uri_byte hop.url is.target);
           target_text = is.target_text;
           minor = omega arith;
           fields = All-from_recursion IsField (map field_of hop.headers) (fields-are hop.headers (each-line hop.headers

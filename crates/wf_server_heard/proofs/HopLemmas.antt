@@ -1,6 +1,7 @@
 -- A server that reads the head of a request hears its method and its headers.
 use Rattle.std.proofs.Common.{◌≡◌, ◌==◌, ℕ, not, List, [], ◌∷◌, ◌++◌, refl, ap, sym, ◌∙◌, arith, append_assoc}
 use Rattle.std.proofs.Common.{All, Contains, unwrap_or}
+use Rattle.std.proofs.lemmas.List.Sums.{AllPass-from_list_all}
 use Rattle.std.proofs.lemmas.List.Elements.{All-contains_itself, All-cons, All-head, All-tail, All-weaker}
 use Rattle.std.specs.List.{flat_map}
 use Rattle.std.specs.Prelude.{codes, IsTrue}
@@ -21,7 +22,7 @@ use Rattle.wf_http1.specs.Heads.{with_lines}
 use Rattle.wf_http1.specs.RequestHeads.{BeginsRequest}
 use Rattle.wf_http1.specs.Requests.{header_line, request_bytes}
 use Rattle.wf_server_heard.specs.Heard.{as_read, IsLine, RequestsAreHeard}
-use Rattle.wf_server_heard.proofs.TextLemmas.{passes, raw-line, token, uri-lacks_space}
+use Rattle.wf_server_heard.proofs.TextLemmas.{raw-line, token, uri-lacks_space}
 
 -- ---- the header lines
 
@@ -59,7 +60,7 @@ line-heard one field behind later is its same =
     (field.raw ++ (print_end field.end ++ later)) (name.0, name.1, refl) (its.name.0, its.name.1, same) in
     let raw : (32 ∷ one.value ≡ field.raw) × (13 ∷ 10 ∷ behind ≡ print_end field.end ++ later) =
     run_unique is_line_byte (32 ∷ one.value) field.raw (13 ∷ 10 ∷ behind) (print_end field.end ++ later)
-    (All-cons (λ (byte : ℕ). IsTrue (is_line_byte byte)) 32 one.value refl (passes is_line_byte one.value is.value))
+    (All-cons (λ (byte : ℕ). IsTrue (is_line_byte byte)) 32 one.value refl (AllPass-from_list_all is_line_byte one.value is.value))
     (raw-line field.raw its.raw) refl (Stops-print_end is_line_byte refl refl field.end later) first.1 in
     record { name = first.0; raw = raw.0; rest = (print_end_unique crlf field.end behind later raw.1).1 }
 
@@ -114,7 +115,7 @@ head-heard method url rest head later name lacks is same =
     (name.0, name.1, refl) (is.method.0, is.method.1, blank) in
     let target : (url ≡ head.target) × (32 ∷ version ≡ 32 ∷ version') =
     run_unique (λ (byte : ℕ). not (byte == 32)) url head.target (32 ∷ version) (32 ∷ version')
-    (passes (λ (byte : ℕ). not (byte == 32)) url lacks) (uri-lacks_space head.target is.target.1) refl refl first.1 in
+    (AllPass-from_list_all (λ (byte : ℕ). not (byte == 32)) url lacks) (uri-lacks_space head.target is.target.1) refl refl first.1 in
     let behind : version ≡ version' = cc (target.1) in
     let end : (1 ≡ head.minor) × (13 ∷ 10 ∷ rest ≡ print_end head.line_end ++ fields) =
     Version_deterministic.unique 1 head.minor version (13 ∷ 10 ∷ rest) (print_end head.line_end ++ fields)

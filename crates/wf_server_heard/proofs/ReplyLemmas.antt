@@ -2,6 +2,7 @@
 use Rattle.std.proofs.Common.{◌≡◌, ◌≤◌, ◌<◌, ◌+◌, ◌/◌, ◌%◌, ◌⊎◌, inl, inr, ℕ, true, false, List, [], ◌∷◌}
 use Rattle.std.proofs.Common.{◌++◌, length, take, drop, map, refl, ap, sym, ◌∙◌, subst, arith, append_assoc}
 use Rattle.std.proofs.Common.{length-append, length-take, Contains, Some}
+use Rattle.std.proofs.lemmas.List.Sums.{AllPass-from_list_all}
 use Rattle.std.proofs.lemmas.Bool.{cases_lt}
 use Rattle.std.proofs.lemmas.Bool.Decides.{nat_tests}
 use Rattle.std.proofs.lemmas.Fmt.{decimal_digit, decimal_is_IsNumeral, decimal_step}
@@ -29,7 +30,7 @@ use Rattle.wf_http1.proofs.HeadLemmas.{field-parts, head-one, head-shortest}
 use Rattle.wf_http1.proofs.SkipLemmas.{final-not-skipped, skips-meet, skips-more, skips-none, undecided}
 use Rattle.wf_server_heard.specs.Heard.{as_read, IsPlainReply, RepliesAreHeard, RepliesHaveHeads}
 use Rattle.wf_server.specs.Served.{Reply, reply_bytes}
-use Rattle.wf_server_heard.proofs.TextLemmas.{passes, token}
+use Rattle.wf_server_heard.proofs.TextLemmas.{token}
 
 -- ---- the head of a reply
 
@@ -102,7 +103,7 @@ field-valid : (one : Header) → (is_token one.name ≡ true) × (list_all is_va
     → IsField (field_of one)
 field-valid one is = record {
   name = token one.name is.0;
-  raw = All-cons (λ (byte : ℕ). IsTrue (is_value_byte byte)) 32 one.value refl (passes is_value_byte one.value is.1);
+  raw = All-cons (λ (byte : ℕ). IsTrue (is_value_byte byte)) 32 one.value refl (AllPass-from_list_all is_value_byte one.value is.1);
 }
 
 printed-valid : (reply : Reply) → IsPlainReply reply → IsHead (printed_of reply)
@@ -110,7 +111,7 @@ printed-valid reply is = record {
   head = record {
     minor = omega arith;
     digits = three-digits reply.status (omega (arith, is.low)) (omega (arith, is.high));
-    reason = passes is_value_byte reply.reason is.reason;
+    reason = AllPass-from_list_all is_value_byte reply.reason is.reason;
     fields = All-map IsField field_of reply.headers
         (All-weaker (Contains reply.headers) (λ (one : Header). IsField (field_of one))
         (λ (one : Header) there. field-valid one (is.lines one there)) reply.headers

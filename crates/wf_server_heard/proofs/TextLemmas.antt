@@ -1,6 +1,7 @@
 -- What the tests of texts tell of their bytes.
 use Rattle.std.proofs.Common.{◌≡◌, ◌==◌, ◌||◌, ◌<◌, ℕ, Bool, true, false, not, true≢false, List, [], ◌∷◌, length}
 use Rattle.std.proofs.Common.{refl, sym, arith}
+use Rattle.std.proofs.lemmas.List.Sums.{AllPass-from_list_all}
 use Rattle.std.proofs.lemmas.Bool.{and_from, and_parts, ltb-true, ne_eqb, not_from_false}
 use Rattle.std.proofs.lemmas.List.Elements.{All-from_recursion, All-weaker}
 use Rattle.std.specs.List.{AllByRecursion, list_all}
@@ -16,17 +17,13 @@ pass test [] all = tt
 pass test (byte ∷ text) all =
     let both = and_parts (test byte) (list_all test text) all in (both.0, pass test text both.1)
 
--- a test that all bytes pass
-pub passes : (test : ℕ → Bool) (text : List ℕ) → list_all test text ≡ true → AllPass test text
-passes test text all = All-from_recursion (λ byte. IsTrue (test byte)) text (pass test text all)
-
 -- a token of the engine is one of the grammar
 pub token : (text : List ℕ) → is_token text ≡ true → IsToken text
 unfolding is_token_byte
 token [] is = absurd (true≢false (sym is))
 token (byte ∷ text) is = (
   omega arith,
-  passes is_tchar (byte ∷ text) (and_parts (not (length (byte ∷ text) == 0)) (list_all is_tchar (byte ∷ text)) is).1,
+  AllPass-from_list_all is_tchar (byte ∷ text) (and_parts (not (length (byte ∷ text) == 0)) (list_all is_tchar (byte ∷ text)) is).1,
 )
 
 -- no byte of a request target is a space

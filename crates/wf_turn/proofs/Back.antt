@@ -1,6 +1,8 @@
 -- The passes that come back, and the ended ones that the first view then keeps.
 use Rattle.std.proofs.Common.{◌≡◌, ◌≢◌, ℕ, zero, suc, ◌+◌, ◌<◌, ◌≤◌, cond, eqb, List, [], ◌∷◌, ◌++◌, length, sym}
 use Rattle.std.proofs.Common.{refl, ap, ◌∙◌, subst, arith, ne_eqb, Some}
+use Rattle.std.proofs.lemmas.Option.{same_Some}
+use Rattle.std.proofs.lemmas.List.{nil_from_length}
 use Rattle.std.specs.declared.option.Option.{Option}
 use Rattle.atomic_table.specs.Seated.{TableId}
 use Rattle.std.specs.List.{All, count_by, sum_by}
@@ -29,7 +31,6 @@ use Rattle.wf_turn.specs.declared.view.Ended.{Ended}
 use Rattle.wf_turn.proofs.Ends.{Closes}
 use Rattle.wf_turn.proofs.Sums.{at-most, sum-total, often-here, times-often, total-plus, total-same}
 use Rattle.wf_turn.proofs.Sums.{total-zero}
-use Rattle.wf_turn.proofs.Turns.{some_desk}
 
 endings-snoc : (ps : List TurnPass) (p : TurnPass) (more : List Ended) → endings ps ++ (ending p.seat.me.0 ∷ more)
     ≡ endings (ps ++ p ∷ []) ++ more
@@ -41,10 +42,6 @@ pub takes_in : (v : View) (ps qs : List TurnPass) (p : TurnPass) → qs ≡ ps +
     → taken_in (joined v p.seat.me.0) ps ≡ taken_in v qs
 takes_in v ps qs p e = ap (λ (l : List Ended). record v { ended = l }) (endings-snoc ps p v.ended
     ∙ ap (λ (l : List TurnPass). endings l ++ v.ended) (sym e))
-
-none-ended : (l : List Ended) → length l ≡ 0 → l ≡ []
-none-ended [] e = refl
-none-ended (x ∷ xs) e = absurd (omega arith)
 
 -- a pass of a document among those that were taken in
 find : (ps : List TurnPass) (more : List Ended) (d : ℕ) → 0 < count_by (is_of d) ps → (k : ℕ) × (e : Ended)
@@ -147,12 +144,12 @@ module _ (passes rest : List TurnPass) (first : TurnPass) (same : IsPermutation 
       ≡ some (Some (desk book history)) → IsOneHistory passes book history
   one_history xs cl book history there =
       let d : Desk = desk book history in let e : Desk = desk (book_after v.opening cl.history) cl.history in
-      let is-desk : d ≡ e = some_desk d e (some-injective (Some d) (Some e) (sym there ∙ cl.desk_is)) in
+      let is-desk : d ≡ e = same_Some d e (some-injective (Some d) (Some e) (sym there ∙ cl.desk_is)) in
       let h : history ≡ cl.history = ap (λ (x : Desk). x.history) is-desk in let b : book
       ≡ book_after v.opening cl.history = ap (λ (x : Desk). x.book) is-desk in
       let opening : v.opening ≡ first.seat.me.0.opening = ap (λ (x : View). x.opening) taken in
       let kept : v.ended ≡ endings rest ++ first.seat.me.0.ended = ap (λ (x : View). x.ended) taken in
-      let empty : first.seat.me.0.ended ≡ [] = none-ended first.seat.me.0.ended first.rests.6 in
+      let empty : first.seat.me.0.ended ≡ [] = nil_from_length first.seat.me.0.ended first.rests.6 in
       let document : v.document ≡ first.document = ap (λ (x : View). x.document) taken ∙ first.rests.1 in
       let back : (Q : TurnPass → Type 0) → Q first → All Q rest → All Q passes =
       λ Q q qs. All-permutation Q (first ∷ rest) passes (IsPermutation-sym passes (first ∷ rest) same)

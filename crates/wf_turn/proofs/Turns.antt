@@ -2,6 +2,7 @@
 -- desk put back.
 use Rattle.std.proofs.Common.{◌≡◌, ℕ, ◌+◌, ◌<◌, true, List, [], ◌∷◌, ◌++◌, length, drop, sym, refl, ap, ◌∙◌, subst}
 use Rattle.std.proofs.Common.{arith, Some, None, Result, Ok, Err, IfOk}
+use Rattle.std.proofs.lemmas.Option.{same_Some}
 use Rattle.std.specs.declared.option.Option.{Option}
 use Rattle.std.proofs.Math.Seq.{drop-append_seam, drop-length}
 use mathlib.Core.Option.{none}
@@ -12,7 +13,7 @@ use Rattle.wf_book.specs.declared.op.Op.{Op}
 use Rattle.wf_book.specs.declared.op.Reply.{Reply}
 use Rattle.wf_text.specs.declared.memory.OutOfMemory.{OutOfMemory}
 use Rattle.wf_book.specs.Entries.{entry, book_after, entries_of, Legal, AllTurnsBelow, StartsWith, Extends}
-use Rattle.std.proofs.lemmas.List.{append-nil}
+use Rattle.std.proofs.lemmas.List.{append-nil, nil_from_length}
 use Rattle.wf_book.proofs.EntryLemmas.{book_after-append, entries_of-snoc_same, LegalFrom-snoc}
 use Rattle.wf_turn.specs.Private.Rule.{desk, Keeps}
 use Rattle.wf_turn.specs.Private.Steps.{Sat, drew, Served, held, noting, passed, Passes, Made}
@@ -26,17 +27,10 @@ served_view v t h = record (drew v t) { served = true; seen = h }
 abbrev pub noted_view : View → ℕ → List Entry → Desk → View
 noted_view v t h d = noting (served_view v t h) d.history
 
-pub nothing_held : (c : List (ℕ × Option Desk)) → length c ≡ 0 → c ≡ []
-nothing_held [] e = refl
-nothing_held (x ∷ xs) e = absurd (omega arith)
-
 first_held : (a b : Option Desk) (xs ys : List (ℕ × Option Desk)) → (0, a) ∷ xs ≡ (0, b) ∷ ys → a ≡ b
 first_held a b xs ys e =
     let x : ℕ × Option Desk = (0, a) in let y : ℕ × Option Desk = (0, b) in let p : x ≡ y = cc in
     ap (λ (q : ℕ × Option Desk). q.1) p
-
-pub some_desk : (a b : Desk) → Some a ≡ Some b → a ≡ b
-some_desk a b e = cc
 
 -- the desk that is taken out is the one that the rule had at home
 pub taken_is : (m₀ m₁ m₂ : Sat) (t : ℕ) (h : List Entry) (found : Option Desk) (d : Desk) → m₁ ≡ (drew m₀.0 t, m₀.1)
@@ -46,7 +40,7 @@ taken_is m₀ m₁ m₂ t h found d e₁ sv there is =
     let here : m₂.1 ≡ (0, Some (desk (book_after m₁.0.opening h) h)) ∷ m₁.1 = ap (λ (m : Sat). m.1) sv.is in
     let same : found ≡ Some (desk (book_after m₁.0.opening h) h) =
     first_held found (Some (desk (book_after m₁.0.opening h) h)) (rest m₂.1) m₁.1 (sym there ∙ here) in
-    some_desk d (desk (book_after m₀.0.opening h) h) (sym is
+    same_Some d (desk (book_after m₀.0.opening h) h) (sym is
     ∙ (same ∙ ap (λ (b : Book). Some (desk (book_after b h) h)) opening))
 
 pub held_is : (m₀ m₁ m₂ m₃ m₄ : Sat) (t : ℕ) (h : List Entry) (d : Desk) → length m₀.1 ≡ 0 → m₁ ≡ (drew m₀.0 t, m₀.1)
@@ -55,7 +49,7 @@ pub held_is : (m₀ m₁ m₂ m₃ m₄ : Sat) (t : ℕ) (h : List Entry) (d : D
 held_is m₀ m₁ m₂ m₃ m₄ t h d empty e₁ sv e₃ e₄ =
     let v₂ : m₂.0 ≡ served_view m₀.0 t h = ap (λ (m : Sat). m.0) sv.is
     ∙ ap (λ (m : Sat). record m.0 { served = true; seen = h }) e₁ in
-    let c₁ : m₁.1 ≡ [] = ap (λ (m : Sat). m.1) e₁ ∙ nothing_held m₀.1 empty in
+    let c₁ : m₁.1 ≡ [] = ap (λ (m : Sat). m.1) e₁ ∙ nil_from_length m₀.1 empty in
     let c₂ : rest m₂.1 ≡ [] = ap (λ (m : Sat). rest m.1) sv.is ∙ c₁ in
     let v₃ : m₃.0 ≡ served_view m₀.0 t h = ap (λ (m : Sat). m.0) e₃ ∙ v₂ in
     let c₃ : rest m₃.1 ≡ [] = ap (λ (m : Sat). rest m.1) e₃ ∙ c₂ in

@@ -1,9 +1,9 @@
 use Rattle.std.proofs.Common.{◌≡◌, ◌∙◌, ap, arith, Some}
+use Rattle.std.proofs.lemmas.List.{nil_from_length}
 use Rattle.std.proofs.lemmas.List.Elements.{All-pop}
 use Rattle.wf_turn.specs.declared.view.View.{View}
 use Rattle.wf_turn.specs.declared.pass.TurnPass.{TurnPass}
 use Rattle.wf_turn.proofs.Seats.{joins}
-use Rattle.wf_turn.proofs.Turns.{nothing_held}
 use Rattle.wf_turn.proofs.close.gather.Goals as goal
 
 pub join_seat-requires : goal.join_seat-requires
@@ -13,7 +13,7 @@ join_seat-requires c =
     c.pop.new.self.items (Some c.in-Some.pass) c.in-Some.ensures.items i.belong in (
       i.same ∙ c.requires.table.0,
       mine.1,
-      nothing_held c.in-Some.pass.seat.me.1 r.0,
+      nil_from_length c.in-Some.pass.seat.me.1 r.0,
       omega arith,
       joins _ _ _ _ (ap (λ (x : View). x.live) i.view ∙ c.requires.first.0) (ap (λ (x : View). x.document) i.view
           ∙ c.requires.first.1) r.2 r.3 r.4,
