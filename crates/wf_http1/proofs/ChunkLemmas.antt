@@ -2,7 +2,7 @@
 use Rattle.std.proofs.Common.{arith, inl, inr, ◌≡◌, ◌≢◌, ◌≤◌, ◌<◌, ◌⊎◌, ◌+◌, ◌*◌, ◌-◌, ◌==◌, ◌&&◌, ◌||◌, ℕ, zero, suc}
 use Rattle.std.proofs.Common.{List, [], ◌∷◌, take, drop, length, refl, sym, ap, ◌∙◌, Bool, true, false, not, nat_le}
 use Rattle.std.proofs.Common.{Option, Some, None, option_map, length-drop, if◌then◌else◌}
-use mathlib.Core.Bool.{and-false}
+use Rattle.std.proofs.Math.Bool.{and-false}
 use Rattle.std.proofs.lemmas.Bool.{le-leb, lt-leb}
 use Rattle.std.specs.Option.{option_and_then}
 use Rattle.std.proofs.lemmas.Bool.Decides.{eqb_tells, leb_tells}

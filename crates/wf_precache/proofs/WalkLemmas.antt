@@ -4,7 +4,7 @@ use Rattle.std.proofs.Common.{length, filter, map, arith, refl, ap, sym, subst, 
 use Rattle.std.proofs.Common.{Option, None, IfSome, IfNone}
 use Rattle.std.proofs.Common.{◌-◌, ◌==◌}
 use Rattle.std.proofs.Common.{if◌then◌else◌}
-use mathlib.Core.Bool.{and-false}
+use Rattle.std.proofs.Math.Bool.{and-false}
 use Rattle.std.proofs.lemmas.Bool.{and_from, and_parts, lt-ltb, ltb-true}
 use Rattle.std.proofs.lemmas.List.Elements.{recursion_from_All}
 use Rattle.std.specs.Cmp.Lexicographic.{bytes_decides, nat_list_cmp_total, slice_cmp}

@@ -1,7 +1,7 @@
 -- Header values that are squeezed while they are filled: whatever follows, they are cut to the same.
 use Rattle.std.proofs.Common.{◌≡◌, ℕ, zero, suc, ◌<◌, Bool, true, false, cond, ◌&&◌, not, List, [], ◌∷◌, ◌++◌, length}
 use Rattle.std.proofs.Common.{take, drop, refl, ap, sym, subst, ◌∙◌, arith, append_assoc, take_all, true≢false}
-use mathlib.Core.Bool.{and-false}
+use Rattle.std.proofs.Math.Bool.{and-false}
 use Rattle.std.proofs.lemmas.Bool.{and_parts, not-true}
 use Rattle.std.proofs.lemmas.List.{length-append, length-take, reverse-append, take-append-drop}
 use Rattle.std.proofs.lemmas.List.{take-append-le}

@@ -1,7 +1,7 @@
 -- The CORS check and the verdict on the answer to a preflight, over the values of the headers that count.
 use Rattle.std.proofs.Common.{◌≡◌, ℕ, Bool, true, false, not, ◌&&◌, ◌||◌, List, [], ◌∷◌, map, find}
 use Rattle.std.proofs.Common.{Option, Some, codes, refl, ap, sym, ◌∙◌, if◌then◌else◌}
-use mathlib.Core.Bool.{and-false, or-false}
+use Rattle.std.proofs.Math.Bool.{and-false, or-false}
 use Rattle.std.proofs.lemmas.Bool.{or_right}
 use Rattle.std.proofs.lemmas.List.{append-nil}
 use Rattle.std.specs.List.{AllByRecursion, list_all, list_any}

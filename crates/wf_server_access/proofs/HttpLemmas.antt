@@ -3,7 +3,7 @@
 use Rattle.std.proofs.Common.{◌≡◌, ℕ, Bool, true, false, not, ◌&&◌, ◌||◌, ◌==◌, List, [], length}
 use Rattle.std.proofs.Common.{Option, Some, None, Ok, Err, codes, bytes_eq, refl, ap, ◌∙◌, option_map}
 use Rattle.std.proofs.Common.{option_and_then, if◌then◌else◌}
-use mathlib.Core.Bool.{and-false, or-false}
+use Rattle.std.proofs.Math.Bool.{and-false, or-false}
 use Rattle.std.specs.Bool.{then_some}
 use Rattle.std.specs.Option.{option_or}
 use Rattle.wf_filter.proofs.LawLemmas.{not-script}

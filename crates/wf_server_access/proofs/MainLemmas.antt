@@ -1,7 +1,7 @@
 -- Main fetch of a `fetch` in mode cors of a document without policies: it comes to the switch.
 use Rattle.std.proofs.Common.{◌≡◌, Bool, true, false, not, ◌&&◌, List, []}
 use Rattle.std.proofs.Common.{None, Err, ap, ◌∙◌, if◌then◌else◌}
-use mathlib.Core.Bool.{and-false}
+use Rattle.std.proofs.Math.Bool.{and-false}
 use Rattle.wf_origin.specs.Origins.{is_origin_of}
 use Rattle.wf_types.specs.declared.error.NetError.TheVariants.{Scheme}
 use Rattle.wf_types.specs.declared.mode.Mode.{Mode}

@@ -1,7 +1,7 @@
 -- The request itself: what it comes to, by the row of its origin in the table.
 use Rattle.std.proofs.Common.{◌≡◌, ℕ, Bool, true, false, not, ◌&&◌, ◌||◌, List, [], map}
 use Rattle.std.proofs.Common.{Option, Some, None, Ok, Err, codes, bytes_eq, refl, ap, sym, subst, ◌∙◌, if◌then◌else◌}
-use mathlib.Core.Bool.{and-false}
+use Rattle.std.proofs.Math.Bool.{and-false}
 use Rattle.std.specs.List.{AllByRecursion}
 use Rattle.wf_text.specs.Tokens.{is_token}
 use Rattle.wf_text.specs.Values.{is_header_value}

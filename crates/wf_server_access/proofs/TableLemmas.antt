@@ -1,7 +1,7 @@
 -- What a request comes to by the row of its origin is what the table tells.
 use Rattle.std.proofs.Common.{◌≡◌, ℕ, Bool, true, false, not, ◌&&◌, ◌||◌, ◌==◌, List, [], ◌∷◌, length, find}
 use Rattle.std.proofs.Common.{Option, Some, None, refl, ap, sym, subst, ◌∙◌, true≢false, if◌then◌else◌, eqb-true, arith}
-use mathlib.Core.Bool.{and-false}
+use Rattle.std.proofs.Math.Bool.{and-false}
 use Rattle.std.proofs.lemmas.Bool.{or_parts}
 use Rattle.std.specs.List.{list_all}
 use Rattle.wf_text.specs.Wildcards.{authorization}
