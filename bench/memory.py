@@ -7,7 +7,7 @@ from concurrent.futures import ThreadPoolExecutor
 
 program, shim, work, jobs, threads_program = sys.argv[1], sys.argv[2], sys.argv[3], int(sys.argv[4]), sys.argv[5]
 crates = os.path.join(os.path.dirname(os.path.abspath(__file__)), '..', 'crates')
-rows = os.path.join(crates, 'worked_plays')
+rows = os.path.join(crates, 'rows_plays')
 COMPLAINT = b'fetchplay: out of memory\n'
 # Without memory for its words, which are its first requests, the program has none, before anything is read.
 MOST_WORDS = 32
@@ -158,7 +158,7 @@ def generated():
 
 def calls():
     """Two threads with 500 calls each on one book, every 50th number. A call that is refused is left out, and the rest made."""
-    with open(os.path.join(crates, 'worked_books', 'stdout'), 'rb') as file:
+    with open(os.path.join(crates, 'rows_books', 'stdout'), 'rb') as file:
         stored = file.read()
     stored = stored[stored.index(b'# one book\n'):]
     status, output, complaints, asked, _ = run([], b'', 0, 0, threads_program)

@@ -11,8 +11,8 @@ source "$(dirname "${BASH_SOURCE[0]}")/common.bash"
 program=${FETCHPLAY:-}
 [ -n "$program" ] || build_fetchplay
 if [ -z "${WORKED_BOOKS:-}" ]; then
-    "$root/bin/proved" worked_books </dev/null >/dev/null
+    "$root/bin/proved" rows_books </dev/null >/dev/null
 fi
-turns=${WORKED_BOOKS:-$root/crates/worked_books/out/worked_books}
+turns=${WORKED_BOOKS:-$root/crates/rows_books/out/rows_books}
 cc -O2 -shared -fPIC -o "$work/refuse.so" "$root/bench/refuse.c"
 python3 "$root/bench/memory.py" "$program" "$work/refuse.so" "$work" "${JOBS:-$(nproc)}" "$turns"

@@ -1,14 +1,14 @@
 #!/usr/bin/env python3
-"""Writes the rows of crates/worked_books on a book that are made by a rule, and what a plain list of entries and a plain
+"""Writes the rows of crates/rows_books on a book that are made by a rule, and what a plain list of entries and a plain
 list of hosts come to on all of them: its `stdin` and `stdout`, but for the rows of the wire before them and the calls of a
 book after them, which stay as they are.
-`bench/worked_books.py` compares what is there with what this script would write; with `--write` it writes them.
+`bench/rows_books.py` compares what is there with what this script would write; with `--write` it writes them.
 
 The rows by hand are in ROWS, each with its answer."""
 import os
 import sys
 
-CRATE = os.path.join(os.path.dirname(os.path.abspath(__file__)), "..", "crates", "worked_books")
+CRATE = os.path.join(os.path.dirname(os.path.abspath(__file__)), "..", "crates", "rows_books")
 
 # ---- rows by hand: an operation, and its answer
 
@@ -272,7 +272,7 @@ def main():
                 file.write("".join(row + "\n" for row in rows))
         else:
             same = stored(name) == rows and same
-    print("worked_books: the same" if same else "worked_books: DIFFERENT")
+    print("rows_books: the same" if same else "rows_books: DIFFERENT")
     return 0 if same else 1
 
 

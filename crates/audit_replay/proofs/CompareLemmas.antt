@@ -9,8 +9,8 @@ use Rattle.std.proofs.lemmas.Option.{same_Some, slice_get-get_or, slice_get_past
 use Rattle.std.specs.List.{slice_get}
 use Rattle.std.specs.Option.{is_some}
 use Rattle.std.specs.Prelude.{◌==◌, if◌then◌else◌, IsSome}
-use Rattle.wf_link.specs.Counts.{Rose}
-use Rattle.wf_link.specs.Sinks.{Took, TookPart}
+use Rattle.link_traits.specs.Counts.{Rose}
+use Rattle.link_traits.specs.Sinks.{Took, TookPart}
 use Rattle.audit_replay.specs.Differences.{AreCompared, DifferAt}
 use Rattle.audit_replay.specs.Private.Comparing.{AreSameFront, Compared, IsComparing, difference, difference_of}
 use Rattle.audit_replay.specs.Private.Comparing.{sealed, taken, taken_of, told_of}

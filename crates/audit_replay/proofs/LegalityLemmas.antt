@@ -3,12 +3,12 @@ use Rattle.std.proofs.Common.{◌≡◌, ◌<◌, ◌+◌, ℕ, List, [], ◌∷
 use Rattle.std.proofs.Common.{subst, ◌∙◌, arith, add-one}
 use Rattle.std.proofs.Math.Seq.{take-suc}
 use Rattle.std.proofs.lemmas.Option.{slice_get_read}
-use Rattle.wf_book.specs.declared.book.Book.{Book}
-use Rattle.wf_book.specs.declared.entry.Entry.{Entry}
-use Rattle.wf_book.specs.declared.op.Reply.{Reply}
-use Rattle.wf_book.specs.Book.{after, reply}
-use Rattle.wf_book.specs.Entries.{book_after}
-use Rattle.wf_book.proofs.EntryLemmas.{book_after-append}
+use Rattle.book_calls.specs.declared.book.Book.{Book}
+use Rattle.book_calls.specs.declared.entry.Entry.{Entry}
+use Rattle.book_calls.specs.declared.op.Reply.{Reply}
+use Rattle.book_calls.specs.Book.{after, reply}
+use Rattle.book_calls.specs.Entries.{book_after}
+use Rattle.book_calls.proofs.EntryLemmas.{book_after-append}
 use Rattle.audit_replay.specs.Legality.{AreRight, IsIllegalAt, IsRight}
 
 right-snoc : (book : Book) (turn : ℕ) (history : List Entry) (entry : Entry) → AreRight book turn history

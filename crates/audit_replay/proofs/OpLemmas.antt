@@ -6,11 +6,11 @@ use Rattle.std.specs.Prelude.{◌==◌, ◌&&◌, bytes_eq, not}
 use Rattle.value_lemmas.proofs.Lists.{drop-slice_get}
 use Rattle.value_lemmas.proofs.Tests.{eqb-self}
 use Rattle.value_lemmas.proofs.Bytes.{bytes_eq-self, bytes_eq-true}
-use Rattle.wf_book.specs.declared.op.Op.{Op}
-use Rattle.wf_book.specs.declared.op.Op.TheVariants.{Match, Note, Covers, Learn, Clear}
-use Rattle.wf_hsts.specs.declared.sts.Sts.{Sts}
-use Rattle.wf_precache.specs.declared.question.Lesson.{Lesson}
-use Rattle.wf_precache.specs.declared.question.Question.{Question}
+use Rattle.book_calls.specs.declared.op.Op.{Op}
+use Rattle.book_calls.specs.declared.op.Op.TheVariants.{Match, Note, Covers, Learn, Clear}
+use Rattle.book_hosts.specs.declared.sts.Sts.{Sts}
+use Rattle.book_preflights.specs.declared.question.Lesson.{Lesson}
+use Rattle.book_preflights.specs.declared.question.Question.{Question}
 use Rattle.audit_replay.specs.Private.Ops.{bool_eq, lesson_eq, method_eq, op_eq, question_eq, sts_eq, texts_eq}
 
 bool-same : (a b : Bool) → bool_eq a b ≡ true → a ≡ b

@@ -12,31 +12,31 @@ use Rattle.std.proofs.lemmas.List.{append-nil, take-append-drop, take_at, get_or
 use Rattle.std.proofs.lemmas.Option.{get_or_from_slice_get}
 use Rattle.std.specs.Prelude.{◌==◌, ◌&&◌, ◌||◌, not, filter, map, nat_lt, position, bytes_eq, IfOk, MatchBool}
 use Rattle.std.specs.List.{list_all, list_any, position_or_len, slice_get}
-use Rattle.wf_book.proofs.SoloLemmas.{reply-kind, yes_or_no-answers}
+use Rattle.book_calls.proofs.SoloLemmas.{reply-kind, yes_or_no-answers}
 use Rattle.value_lemmas.proofs.Lists.{position_or_len-no, position_or_len-yes}
 use Rattle.value_lemmas.proofs.Bytes.{bytes_eq-self}
-use Rattle.wf_text.specs.declared.memory.OutOfMemory.{OutOfMemory}
-use Rattle.wf_book.specs.declared.book.Book.{Book}
-use Rattle.wf_book.specs.declared.entry.Entry.{Entry}
-use Rattle.wf_book.specs.declared.op.Op.{Op}
-use Rattle.wf_book.specs.declared.op.Op.TheVariants.{Match, Note, Covers, Learn, Clear}
-use Rattle.wf_book.specs.declared.op.Reply.{Reply}
-use Rattle.wf_book.specs.declared.op.Reply.TheVariants.{Done}
-use Rattle.wf_book.specs.Book.{after, reply, yes_or_no}
-use Rattle.wf_book.specs.Entries.{Extends, Legal, LegalFrom, book_after, entries_of, entry}
-use Rattle.wf_book.specs.Ops.{is_answer, is_question}
-use Rattle.wf_book.proofs.EntryLemmas.{entries_of-append, entries_of-snoc_other, entries_of-snoc_same}
-use Rattle.wf_hsts.specs.declared.hosts.KnownHost.{KnownHost}
-use Rattle.wf_hsts.specs.Hosts.{known_host, matches_host, noted, stands_for}
-use Rattle.wf_precache.specs.declared.entry.Allowed.{Allowed}
-use Rattle.wf_precache.specs.declared.entry.Allowed.TheVariants.{Method, HeaderName}
-use Rattle.wf_precache.specs.declared.entry.CacheEntry.{CacheEntry}
-use Rattle.wf_precache.specs.declared.question.Question.{Question}
-use Rattle.wf_precache.specs.Cache.{cleared, covers}
-use Rattle.wf_precache.specs.Entries.{allows, covered, has_match, has_method_match, is_alive, is_match}
-use Rattle.wf_precache.specs.Entries.{is_of}
-use Rattle.wf_precache.specs.Keys as keys
-use Rattle.wf_precache.specs.declared.entry.Keyed.{Keyed}
+use Rattle.value_text.specs.declared.memory.OutOfMemory.{OutOfMemory}
+use Rattle.book_calls.specs.declared.book.Book.{Book}
+use Rattle.book_calls.specs.declared.entry.Entry.{Entry}
+use Rattle.book_calls.specs.declared.op.Op.{Op}
+use Rattle.book_calls.specs.declared.op.Op.TheVariants.{Match, Note, Covers, Learn, Clear}
+use Rattle.book_calls.specs.declared.op.Reply.{Reply}
+use Rattle.book_calls.specs.declared.op.Reply.TheVariants.{Done}
+use Rattle.book_calls.specs.Book.{after, reply, yes_or_no}
+use Rattle.book_calls.specs.Entries.{Extends, Legal, LegalFrom, book_after, entries_of, entry}
+use Rattle.book_calls.specs.Ops.{is_answer, is_question}
+use Rattle.book_calls.proofs.EntryLemmas.{entries_of-append, entries_of-snoc_other, entries_of-snoc_same}
+use Rattle.book_hosts.specs.declared.hosts.KnownHost.{KnownHost}
+use Rattle.book_hosts.specs.Hosts.{known_host, matches_host, noted, stands_for}
+use Rattle.book_preflights.specs.declared.entry.Allowed.{Allowed}
+use Rattle.book_preflights.specs.declared.entry.Allowed.TheVariants.{Method, HeaderName}
+use Rattle.book_preflights.specs.declared.entry.CacheEntry.{CacheEntry}
+use Rattle.book_preflights.specs.declared.question.Question.{Question}
+use Rattle.book_preflights.specs.Cache.{cleared, covers}
+use Rattle.book_preflights.specs.Entries.{allows, covered, has_match, has_method_match, is_alive, is_match}
+use Rattle.book_preflights.specs.Entries.{is_of}
+use Rattle.book_preflights.specs.Keys as keys
+use Rattle.book_preflights.specs.declared.entry.Keyed.{Keyed}
 use Rattle.audit_replay.specs.Legality.{AreRight}
 use Rattle.audit_replay.specs.Private.Calls.{IsNext, IsNone, IsPassed, IsStrayed}
 use Rattle.audit_replay.specs.Tapes.{account_of, asks_nothing, before_stray, first_op, IsParted, IsTape, IsUsedUp}

@@ -2,10 +2,10 @@
 -- (this project's own).
 use Rattle.std.specs.Prelude.{◌≡◌, ℕ, ◌+◌, Bool, nat_le, List, [], ◌∷◌, take, position, Option, Some, None}
 use Rattle.std.specs.List.{slice_get}
-use Rattle.wf_book.specs.declared.book.Book.{Book}
-use Rattle.wf_book.specs.declared.entry.Entry.{Entry}
-use Rattle.wf_book.specs.Book.{after, reply}
-use Rattle.wf_book.specs.Entries.{book_after}
+use Rattle.book_calls.specs.declared.book.Book.{Book}
+use Rattle.book_calls.specs.declared.entry.Entry.{Entry}
+use Rattle.book_calls.specs.Book.{after, reply}
+use Rattle.book_calls.specs.Entries.{book_after}
 
 -- ---- legal entries
 

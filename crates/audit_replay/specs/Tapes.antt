@@ -2,16 +2,17 @@
 use Rattle.std.specs.Prelude.{◌≡◌, ◌≢◌, ℕ, ◌+◌, ◌-◌, ◌≤◌, ◌==◌, ◌&&◌, Bool, true, false}
 use Rattle.std.specs.Prelude.{List, [], ◌∷◌, ◌++◌, length, take, drop}
 use Rattle.std.specs.Prelude.{Option, Some, None}
-use Rattle.wf_book.specs.Accounts.{Account}
-use Rattle.wf_book.specs.declared.book.Book.{Book}
-use Rattle.wf_book.specs.declared.entry.Entry.{Entry}
-use Rattle.wf_book.specs.declared.op.Op.{Op}
-use Rattle.wf_book.specs.declared.op.Op.TheVariants.{Match, Note, Covers, Learn, Clear}
-use Rattle.wf_book.specs.declared.op.Reply.{Reply}
-use Rattle.wf_book.specs.declared.op.Reply.TheVariants.{Yes, Done}
-use Rattle.wf_book.specs.Book.{yes_or_no}
-use Rattle.wf_book.specs.Entries.{entries_of, entry}
-use Rattle.wf_precache.specs.declared.question.Question.{Question}
+use Rattle.value_text.specs.Texts.{Text}
+use Rattle.book_calls.specs.Accounts.{Account}
+use Rattle.book_calls.specs.declared.book.Book.{Book}
+use Rattle.book_calls.specs.declared.entry.Entry.{Entry}
+use Rattle.book_calls.specs.declared.op.Op.{Op}
+use Rattle.book_calls.specs.declared.op.Op.TheVariants.{Match, Note, Covers, Learn, Clear}
+use Rattle.book_calls.specs.declared.op.Reply.{Reply}
+use Rattle.book_calls.specs.declared.op.Reply.TheVariants.{Yes, Done}
+use Rattle.book_calls.specs.Book.{yes_or_no}
+use Rattle.book_calls.specs.Entries.{entries_of, entry}
+use Rattle.book_preflights.specs.declared.question.Question.{Question}
 use Rattle.audit_replay.specs.Legality.{AreRight}
 
 -- What is seen of a pass: the document, the book that the history opens with, the history, how many of its entries were
@@ -27,7 +28,7 @@ pub record Tape : Type 0 where
 -- ---- calls that the history does not have
 
 -- a question asks for no method
-abbrev pub lacks_method : Option (List ℕ) → Bool
+abbrev pub lacks_method : Option Text → Bool
 lacks_method None = true
 lacks_method (Some method) = false
 

@@ -1,15 +1,15 @@
 // The text of a play, compared with another text.
 ghost use Rattle.std.specs.Prelude.{IfOk};
-ghost use Rattle.wf_print.specs.Text.{play_text};
-ghost use Rattle.wf_script_events.specs.Endings.{HasText};
+ghost use Rattle.play_text.specs.Text.{play_text};
+ghost use Rattle.script_events.specs.Endings.{HasText};
 ghost use Rattle.audit_replay.specs.Differences.{AreCompared};
 
 use crate::comparing::Comparing;
+use book_calls::History;
+use play_text::{Failure, write_play};
+use script_events::Transcripts;
 use std::alloc::Global;
-use wf_book::History;
-use wf_print::{Failure, write_play};
-use wf_script_events::Transcripts;
-use wf_text::OutOfMemory;
+use value_text::OutOfMemory;
 
 /// Where the text of a play differs from another text: the first offset at which they have another byte, or at which
 /// one of them ends and the other does not. `None` exactly where they are equal. The text of the play is not built

@@ -1,13 +1,13 @@
 // A sink that compares.
 ghost use Rattle.std.specs.Prelude.{◌≡◌, [], take, Some, IfOk, OnErr};
 ghost use Rattle.std.specs.Io.{WritesAtMost};
-ghost use Rattle.wf_link.specs.Counts.{HasCause};
-ghost use Rattle.wf_link.specs.Sinks.{CountsZero, Took};
-ghost use Rattle.wf_link.specs.Sources.{no_source};
+ghost use Rattle.link_traits.specs.Counts.{HasCause};
+ghost use Rattle.link_traits.specs.Sinks.{CountsZero, Took};
+ghost use Rattle.link_traits.specs.Sources.{no_source};
 ghost use Rattle.audit_replay.specs.Private.Comparing as spec;
 
+use link_traits::{Failed, Sink};
 use std::marker::Model;
-use wf_link::{Failed, Sink};
 
 /// A sink that compares what it takes with a text. It takes bytes up to the first that the text does not have there,
 /// and that one; then it fails. It keeps no byte that it takes but that one.

@@ -1,12 +1,12 @@
 // The first entry of a given history that the book would not give, and the first that names no document.
 ghost use Rattle.std.specs.Prelude.{◌≡◌, ◌↔◌, IfOk, IsTrue};
 ghost use Rattle.std.specs.List.{All};
-ghost use Rattle.wf_book.specs.Ops.{InRange};
+ghost use Rattle.book_calls.specs.Ops.{InRange};
 ghost use Rattle.audit_replay.specs.Legality as spec;
 
+use book_calls::{Book, Entry, Reply};
 use std::alloc::Global;
-use wf_book::{Book, Entry, Reply};
-use wf_text::OutOfMemory;
+use value_text::OutOfMemory;
 
 // Whether an entry is the one of this turn, with this reply.
 fn is_right(entry: &Entry, turn: u64, reply: Reply) -> bool

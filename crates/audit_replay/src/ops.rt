@@ -2,10 +2,10 @@
 ghost use Rattle.std.specs.Prelude.{◌≡◌, bytes_eq};
 ghost use Rattle.audit_replay.specs.Private.Ops as spec;
 
-use wf_book::Op;
-use wf_hsts::Sts;
-use wf_precache::{Lesson, Names, Question};
-use wf_text::Bytes;
+use book_calls::Op;
+use book_hosts::Sts;
+use book_preflights::{Lesson, Names, Question};
+use value_text::Bytes;
 
 fn same(one: &Bytes, other: &Bytes) -> bool
     ensures { result ≡ bytes_eq one.now other.now }

@@ -2,8 +2,8 @@
 ghost use Rattle.std.specs.Prelude.{◌≡◌};
 ghost use Rattle.audit_replay.specs.Tapes as spec;
 
-use wf_book::{Op, Reply};
-use wf_precache::Question;
+use book_calls::{Op, Reply};
+use book_preflights::Question;
 
 // Whether a question asks for nothing.
 fn asks_nothing(question: &Question) -> bool

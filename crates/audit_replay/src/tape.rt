@@ -1,21 +1,21 @@
 // A document's calls of the shared book, to which a given history replies in place of a book.
 ghost use Rattle.std.specs.Prelude.{◌≡◌, ◌≢◌, ◌==◌, ◌+◌, ◌<◌, [], drop, length, position, slice_get, Some};
 ghost use Rattle.std.specs.Prelude.{IfOk, MatchBool, MatchOption, OnErr};
-ghost use Rattle.wf_book.specs.Entries.{entries_of};
+ghost use Rattle.book_calls.specs.Entries.{entries_of};
 ghost use Rattle.audit_replay.specs.Legality.{AreRight};
 ghost use Rattle.audit_replay.specs.Private.Calls as calls;
 ghost use Rattle.audit_replay.specs.Tapes as spec;
 
 use crate::ops::same_op;
 use crate::stray::stray_reply;
+use book_calls::{Book, Entry, Op, Reply, Share};
 use std::alloc::Global;
 use std::marker::Model;
 use std::snapshot::Snapshot;
 use std::sync::Wait;
 use std::thread::Threads;
 use value_places::Shared;
-use wf_book::{Book, Entry, Op, Reply, Share};
-use wf_text::OutOfMemory;
+use value_text::OutOfMemory;
 
 /// A share that replies to each call of a document by the document's next entry of a given history. It calls no book.
 #[derive(Drop)]

@@ -1,9 +1,9 @@
 use crate::lessons::{lesson, question};
 use crate::words::{count_in, numbered};
+use book_preflights::{Lesson, Precache, Question};
+use rows_shell::{Failed, Row};
 use std::alloc::Global;
-use wf_precache::{Lesson, Precache, Question};
-use wf_text::BytesList;
-use worked_rows::{Failed, Row};
+use value_text::BytesList;
 
 /// How long a lesson holds, in seconds.
 const AGE: u64 = 7_200;

@@ -1,12 +1,12 @@
-ghost use Rattle.wf_types.specs.Requests.{IsRequest};
+ghost use Rattle.value_requests.specs.Requests.{IsRequest};
 
 use crate::words::{count_in, numbered};
+use policy_filter::{filtered, hide};
+use rows_shell::{Failed, Row, named, request_of};
 use std::alloc::Global;
-use wf_filter::{filtered, hide};
-use wf_headers::{HeaderList, PackedHeaders};
-use wf_text::Bytes;
-use wf_types::{Head, Hop, Request};
-use worked_rows::{Failed, Row, named, request_of};
+use value_headers::{HeaderList, PackedHeaders};
+use value_requests::{Head, Hop, Request};
+use value_text::Bytes;
 
 /// The request that the head answers.
 const REQUEST: &[u8] = b"url=https://b.test/ from=https://a.test/ tainting=cors";

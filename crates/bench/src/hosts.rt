@@ -1,8 +1,8 @@
 use crate::words::{count_in, numbered};
+use book_hosts::{HstsList, Sts};
+use rows_shell::{Failed, Row};
 use std::alloc::Global;
-use wf_hsts::{HstsList, Sts};
-use wf_text::BytesList;
-use worked_rows::{Failed, Row};
+use value_text::BytesList;
 
 /// What each host says.
 const STS: Sts = Sts {

@@ -1,9 +1,9 @@
 ghost use Rattle.std.specs.Prelude.{◌≡◌, IfOk};
 
+use book_preflights::{Lesson, Names, Question};
+use rows_shell::Failed;
 use std::alloc::Global;
-use wf_precache::{Lesson, Names, Question};
-use wf_text::{Bytes, BytesList};
-use worked_rows::Failed;
+use value_text::{Bytes, BytesList};
 
 /// What a preflight of http://a.test teaches of http://b.test/ under this key.
 pub(crate) fn lesson(

@@ -21,13 +21,13 @@ mod turns;
 mod words;
 
 use crate::words::words_of;
+use rows_shell::{Failed, Row, Shown, named, print_text};
 use std::alloc::Global;
 use std::env;
 use std::process::ExitCode;
 use std::rt::Env;
 use std::sync::Wait;
 use std::thread::Threads;
-use worked_rows::{Failed, Row, Shown, named, print_text};
 
 /// The kinds of work.
 #[derive(Clone, Copy)]

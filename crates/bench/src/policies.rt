@@ -1,12 +1,12 @@
-ghost use Rattle.wf_types.specs.Requests.{IsRequest};
+ghost use Rattle.value_requests.specs.Requests.{IsRequest};
 
 use crate::words::count_in;
+use policy_csp::Compiled;
+use policy_csp_text::{Policies, parse_policies};
+use rows_shell::{Failed, Row, Shown, request_of};
 use std::alloc::Global;
-use wf_csp::Compiled;
-use wf_csp_text::{Policies, parse_policies};
-use wf_text::Bytes;
-use wf_types::Request;
-use worked_rows::{Failed, Row, Shown, request_of};
+use value_requests::Request;
+use value_text::Bytes;
 
 // A path of so many bytes.
 fn path_of(alloc: Global, length: u32) -> Result<Bytes, Failed> {

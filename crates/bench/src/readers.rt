@@ -1,11 +1,11 @@
 ghost use Rattle.std.specs.Prelude.{◌<◌};
 
 use crate::words::{count_in, some_in};
+use link_http1::{BodyReader, BodyStep, Framing, HeadReader, HeadStep};
+use rows_shell::{Failed, Row, Shown, named};
 use std::alloc::Global;
-use wf_http1::{BodyReader, BodyStep, Framing, HeadReader, HeadStep};
-use wf_text::Bytes;
-use wf_types::BodyEnd;
-use worked_rows::{Failed, Row, Shown, named};
+use value_requests::BodyEnd;
+use value_text::Bytes;
 
 /// How many bytes a body has.
 const BODY: u32 = 262_144;

@@ -1,20 +1,20 @@
 ghost use Rattle.std.specs.Prelude.{◌≡◌, ℕ, ◌≤◌, ◌<◌, ◌^◌, [], IfOk};
 ghost use Rattle.std.specs.List.{All};
-ghost use Rattle.wf_book.specs.Ops.{InRange};
-ghost use Rattle.wf_turn.specs.Passes.{left_of, made_of};
+ghost use Rattle.book_calls.specs.Ops.{InRange};
+ghost use Rattle.book_turns.specs.Passes.{left_of, made_of};
 
 use crate::lessons::{lesson, question};
 use crate::words::{count_in, some_in};
+use book_calls::{Book, Op, Share};
+use book_preflights::Lesson;
+use book_turns::{TurnBook, TurnPass};
+use rows_shell::{Failed, Row};
 use std::alloc::Global;
 use std::sync::Wait;
 use std::thread;
 use std::thread::Threads;
 use value_places::Shared;
-use wf_book::{Book, Op, Share};
-use wf_precache::Lesson;
-use wf_text::{Bytes, BytesList};
-use wf_turn::{TurnBook, TurnPass};
-use worked_rows::{Failed, Row};
+use value_text::{Bytes, BytesList};
 
 /// A pass, and how many of its calls were answered.
 #[derive(Drop)]

@@ -1,8 +1,8 @@
 ghost use Rattle.std.specs.Prelude.{◌<◌, IfOk};
 
+use rows_shell::{Failed, Row, Shown, number};
 use std::alloc::Global;
-use wf_text::Bytes;
-use worked_rows::{Failed, Row, Shown, number};
+use value_text::Bytes;
 
 /// The words as one text, with a space after each.
 pub(crate) fn words_of(alloc: Global, words: &[String]) -> Result<Bytes, Failed> {

@@ -1,12 +1,12 @@
 // The program: it makes the real streams and the listener, calls the top call, and ends with its status.
 #![tactic(auto)]
 
+use link_tcp::TcpAccepts;
+use link_traits::{StandardError, StandardInput, StandardOutput};
+use program_corsserve::corsserve;
 use std::env;
 use std::process::ExitCode;
 use std::rt::Env;
-use wf_link::{StandardError, StandardInput, StandardOutput};
-use wf_server_program::corsserve;
-use wf_tcp::TcpAccepts;
 
 // The words after the program's name. Where they cannot be had there are none, which is the usage
 // error.

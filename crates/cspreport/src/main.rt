@@ -1,11 +1,11 @@
 // The program: it makes the real streams, calls the top call, and ends with its status.
 #![tactic(auto)]
 
+use link_traits::{StandardError, StandardInput, StandardOutput};
+use program_cspreport::cspreport;
 use std::env;
 use std::process::ExitCode;
 use std::rt::Env;
-use wf_link::{StandardError, StandardInput, StandardOutput};
-use wf_report_program::cspreport;
 
 // The words after the program's name. Where they cannot be had there are none, which is the usage
 // error.

@@ -1,11 +1,11 @@
 // The program: it makes the real streams, calls the top call, and ends with its status.
 #![tactic(auto)]
 
+use link_traits::{StandardError, StandardInput, StandardOutput};
+use program_playaudit::playaudit;
 use std::env;
 use std::process::ExitCode;
 use std::rt::Env;
-use wf_audit_program::playaudit;
-use wf_link::{StandardError, StandardInput, StandardOutput};
 
 // The words after the program's name, where they can be had: one that is no UTF-8 cannot.
 fn words<R: Env + AllocGlobal>(rt: &R) -> Option<Vec<String>> {

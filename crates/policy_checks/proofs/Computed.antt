@@ -4,8 +4,8 @@ use Rattle.std.proofs.Common.{◌≡◌, refl, ℕ, List, [], ◌∷◌, true, f
 use Rattle.url.proofs.OnLiterals.{url_on_literals}
 use Rattle.url.specs.declared.host.Host.TheVariants.{Domain}
 use Rattle.url.specs.Parts.{Parts}
-use Rattle.wf_origin.specs.declared.origin.Origin.{Origin}
-use Rattle.wf_origin.specs.Origins.{tuple_origin}
+use Rattle.value_origins.specs.declared.origin.Origin.{Origin}
+use Rattle.value_origins.specs.Origins.{tuple_origin}
 use Rattle.policy_checks.specs.RequestOrigins.{has_tainted_origin}
 
 -- http://HOST/

@@ -6,9 +6,9 @@ use Rattle.std.proofs.lemmas.Slice.Eq.{bytes_eq-Decides}
 use Rattle.std.specs.List.{list_any}
 use Rattle.std.specs.Prelude.{IsTrue, bytes_eq}
 use Rattle.std.specs.Str.{str_eq_ignore_ascii_case}
-use Rattle.wf_headers.proofs.SpellingLemmas.{fold-sym}
-use Rattle.wf_headers.specs.declared.headers.Header.{Header}
-use Rattle.wf_headers.specs.Headers.{is_named, values_of}
+use Rattle.value_headers.proofs.SpellingLemmas.{fold-sym}
+use Rattle.value_headers.specs.declared.headers.Header.{Header}
+use Rattle.value_headers.specs.Headers.{is_named, values_of}
 use Rattle.policy_checks.specs.PermittedNames.{has_name_among, only_named}
 
 -- the headers of a name are all kept where each header of this name is

@@ -1,9 +1,10 @@
 -- The CORS check of a response (Fetch, section 4.10 "CORS check").
-use Rattle.std.specs.Prelude.{ℕ, Bool, ◌&&◌, ◌||◌, List, codes, if◌then◌else◌}
-use Rattle.wf_headers.specs.declared.headers.Header.{Header}
-use Rattle.wf_headers.specs.Headers.{has_value}
-use Rattle.wf_types.specs.declared.request.Request.{Request}
-use Rattle.wf_types.specs.Modes.{is_include}
+use Rattle.std.specs.Prelude.{Bool, ◌&&◌, ◌||◌, List, codes, if◌then◌else◌}
+use Rattle.value_text.specs.Texts.{Text}
+use Rattle.value_headers.specs.declared.headers.Header.{Header}
+use Rattle.value_headers.specs.Headers.{has_value}
+use Rattle.value_requests.specs.declared.request.Request.{Request}
+use Rattle.value_requests.specs.Modes.{is_include}
 use Rattle.policy_checks.specs.RequestOrigins.{serialized_request_origin}
 
 -- `Access-Control-Allow-Origin` is `*`
@@ -11,7 +12,7 @@ abbrev pub allows_any : List Header → Bool
 allows_any headers = has_value (codes "Access-Control-Allow-Origin") (codes "*") headers
 
 -- `Access-Control-Allow-Origin` is this origin, byte for byte
-abbrev pub allows_origin : List ℕ → List Header → Bool
+abbrev pub allows_origin : Text → List Header → Bool
 allows_origin origin headers = has_value (codes "Access-Control-Allow-Origin") origin headers
 
 -- `Access-Control-Allow-Credentials` is `true`
@@ -20,7 +21,7 @@ allows_credentials headers = has_value (codes "Access-Control-Allow-Credentials"
 
 -- "CORS check" of a serialised request origin, and whether the credentials mode is include: with it the origin itself
 -- and credentials are to be allowed (steps 4, 6 and 7); without it any origin, or this one (steps 3 to 5)
-abbrev pub passes_cors_check : List ℕ → Bool → List Header → Bool
+abbrev pub passes_cors_check : Text → Bool → List Header → Bool
 passes_cors_check origin include headers =
     if include then allows_origin origin headers && allows_credentials headers
     else allows_any headers || allows_origin origin headers

@@ -1,9 +1,10 @@
 -- Tainted origins, and the serialised origin of a request (Fetch, section 2.2.5).
-use Rattle.std.specs.Prelude.{ℕ, ◌&&◌, ◌||◌, Bool, false, not, List, [], ◌∷◌, codes, if◌then◌else◌}
+use Rattle.std.specs.Prelude.{◌&&◌, ◌||◌, Bool, false, not, List, [], ◌∷◌, codes, if◌then◌else◌}
 use Rattle.url.specs.Parts.{Parts}
-use Rattle.wf_origin.specs.declared.origin.Origin.{Origin}
-use Rattle.wf_origin.specs.Origins.{have_same_origin, is_origin_of, serialized}
-use Rattle.wf_types.specs.declared.request.Request.{Request}
+use Rattle.value_text.specs.Texts.{Text}
+use Rattle.value_origins.specs.declared.origin.Origin.{Origin}
+use Rattle.value_origins.specs.Origins.{have_same_origin, is_origin_of, serialized}
+use Rattle.value_requests.specs.declared.request.Request.{Request}
 
 -- a redirect from this URL to another origin, while the request's origin was not that of the URL
 abbrev pub taints : Origin → Parts → Parts → Bool
@@ -21,6 +22,6 @@ has_tainted_origin origin [] = false
 has_tainted_origin origin (url ∷ urls) = tainted_from origin url urls
 
 -- "serializing a request origin": `null` for a tainted origin, and else the origin's text
-abbrev pub serialized_request_origin : Request → List ℕ
+abbrev pub serialized_request_origin : Request → Text
 serialized_request_origin request =
     if has_tainted_origin request.origin request.urls then codes "null" else serialized request.origin

@@ -1,16 +1,17 @@
 -- Which responses a cross-origin resource policy blocks (Fetch, "cross-origin resource policy check").
-use Rattle.std.specs.Prelude.{ℕ, Bool, false, not, ◌&&◌, ◌||◌, List, codes, if◌then◌else◌}
-use Rattle.wf_headers.specs.declared.headers.Header.{Header}
-use Rattle.wf_headers.specs.Headers.{has_value}
-use Rattle.wf_origin.specs.declared.origin.Origin.{Origin}
-use Rattle.wf_origin.specs.Origins.{same_origin, tuple_origin}
-use Rattle.wf_origin.specs.Sites.{same_site}
-use Rattle.wf_types.specs.declared.request.Request.{Request}
-use Rattle.wf_types.specs.Requests.{current_url}
+use Rattle.std.specs.Prelude.{Bool, false, not, ◌&&◌, ◌||◌, List, codes, if◌then◌else◌}
+use Rattle.value_text.specs.Texts.{Text}
+use Rattle.value_headers.specs.declared.headers.Header.{Header}
+use Rattle.value_headers.specs.Headers.{has_value}
+use Rattle.value_origins.specs.declared.origin.Origin.{Origin}
+use Rattle.value_origins.specs.Origins.{same_origin, tuple_origin}
+use Rattle.value_origins.specs.Sites.{same_site}
+use Rattle.value_requests.specs.declared.request.Request.{Request}
+use Rattle.value_requests.specs.Requests.{current_url}
 use Rattle.policy_checks.specs.OriginHeader.{is_https}
 
 -- the value of `Cross-Origin-Resource-Policy` is this text; another value than the three that there are is as none
-abbrev pub has_resource_policy : List ℕ → List Header → Bool
+abbrev pub has_resource_policy : Text → List Header → Bool
 has_resource_policy text headers = has_value (codes "Cross-Origin-Resource-Policy") text headers
 
 -- the origin of a URL is of one site with the request's origin, and no insecure origin looks into a secure one

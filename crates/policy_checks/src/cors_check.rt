@@ -4,9 +4,9 @@ ghost use Rattle.policy_checks.specs.CorsCheck as spec;
 
 use crate::request_origin::serialized_origin;
 use std::alloc::Global;
-use wf_headers::HeaderList;
-use wf_text::OutOfMemory;
-use wf_types::Request;
+use value_headers::HeaderList;
+use value_requests::Request;
+use value_text::OutOfMemory;
 
 // Whether any origin is allowed.
 fn allows_any(headers: &HeaderList) -> bool

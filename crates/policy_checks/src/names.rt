@@ -2,8 +2,8 @@
 ghost use Rattle.std.specs.Prelude.{◌≡◌, map};
 ghost use Rattle.policy_checks.specs.PermittedNames as spec;
 
-use wf_headers::Field;
-use wf_text::is_among_fold;
+use value_headers::Field;
+use value_text::is_among_fold;
 
 /// Whether the header has one of these names, ASCII case aside. It takes no memory.
 pub fn has_name_among(names: &[&[u8]], header: &Field) -> bool

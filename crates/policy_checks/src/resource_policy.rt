@@ -1,14 +1,14 @@
 // Which responses a cross-origin resource policy blocks (Fetch, "cross-origin resource policy check").
 ghost use Rattle.std.specs.Prelude.{◌≡◌, IfOk};
 ghost use Rattle.policy_checks.specs.OriginHeader.{is_https};
-ghost use Rattle.wf_types.specs.Requests.{IsRequest};
+ghost use Rattle.value_requests.specs.Requests.{IsRequest};
 ghost use Rattle.policy_checks.specs.ResourcePolicy as spec;
 
 use std::alloc::Global;
-use wf_headers::HeaderList;
-use wf_origin::{Origin, same_origin, same_site, tuple_origin};
-use wf_text::OutOfMemory;
-use wf_types::Request;
+use value_headers::HeaderList;
+use value_origins::{Origin, same_origin, same_site, tuple_origin};
+use value_requests::Request;
+use value_text::OutOfMemory;
 
 // Whether Cross-Origin-Resource-Policy is this text.
 fn has_resource_policy(headers: &HeaderList, text: &[u8]) -> bool

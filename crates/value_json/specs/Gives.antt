@@ -1,5 +1,6 @@
 -- What a function that reads a tree returns.
-use Rattle.std.specs.Prelude.{◌≡◌, ℕ, List, Result, Ok, Err}
+use Rattle.std.specs.Prelude.{◌≡◌, Result, Ok, Err}
+use Rattle.value_text.specs.Texts.{Text}
 use Rattle.value_json.specs.declared.refused.Refused.{Refused}
 use Rattle.value_json.specs.declared.refused.Refused.TheVariants.{Memory, At}
 use Rattle.value_json.specs.Reading.{Read, below}
@@ -20,7 +21,7 @@ GivesAs seen (Ok x) read = read ≡ Ok (seen x)
 GivesAs seen (Err refused) read = Refuses refused read
 
 -- the second refusal is the first, under a segment, unless memory ran out
-abbrev pub IsUnder : List ℕ → Refused → Refused → Type 0
+abbrev pub IsUnder : Text → Refused → Refused → Type 0
 IsUnder segment refused Memory = Unit {0}
 IsUnder segment Memory (At place) = ⊥
 IsUnder segment (At inner) (At place) = place ≡ below segment inner

@@ -4,12 +4,13 @@ use Rattle.std.specs.Prelude.{ℕ, ◌+◌, ◌&&◌, Bool, true, nat_le, List, 
 use Rattle.std.specs.Prelude.{bytes_eq, Option, Some, None, is_some, option_and_then, Result, Ok, Err, if◌then◌else◌, ⊤}
 use Rattle.serde_json.specs.Data.{Data, Items, no_items, item}
 use Rattle.serde_json.specs.Find.{get, as_bool, as_number, as_u64, as_str, as_array, as_object}
+use Rattle.value_text.specs.Texts.{Text}
 pub use Rattle.value_json.specs.Keys.{is_one_of, known, has_keys}
 pub use Rattle.value_json.specs.Trees.{count}
 
 -- a value, or the place that is refused
 abbrev pub Read : Type 0 → Type 0
-Read A = Result A (List ℕ)
+Read A = Result A Text
 
 -- then read on, unless a place was refused
 infixl 10 ◌>>=◌
@@ -18,11 +19,11 @@ abbrev pub ◌>>=◌ : {A B : Type 0} → Read A → (A → Read B) → Read B
 (Err place) >>= next = Err place
 
 -- the place, under a segment
-abbrev pub below : List ℕ → List ℕ → List ℕ
+abbrev pub below : Text → Text → Text
 below segment place = codes "/" ++ (segment ++ place)
 
 -- what is read under a segment
-abbrev pub under : {A : Type 0} → List ℕ → Read A → Read A
+abbrev pub under : {A : Type 0} → Text → Read A → Read A
 under segment (Ok x) = Ok x
 under segment (Err place) = Err (below segment place)
 
@@ -48,22 +49,22 @@ abbrev pub truth_of : Data → Read Bool
 truth_of tree = present (as_bool tree)
 
 -- a text that passes its test
-abbrev pub text_that : (List ℕ → Bool) → Data → Read (List ℕ)
+abbrev pub text_that : (Text → Bool) → Data → Read Text
 text_that passes tree = do
   text ← present (as_str tree)
   given (passes text) text
 
 -- any text passes
-abbrev pub any : List ℕ → Bool
+abbrev pub any : Text → Bool
 any text = true
 
 -- the meaning of a word in a table of words
-abbrev pub meaning : {A : Type 0} → List (List ℕ × A) → List ℕ → Option A
+abbrev pub meaning : {A : Type 0} → List (Text × A) → Text → Option A
 meaning [] text = None
 meaning (entry ∷ words) text = if bytes_eq entry.0 text then Some entry.1 else meaning words text
 
 -- the meaning of one of these words
-abbrev pub word_of : {A : Type 0} → List (List ℕ × A) → Data → Read A
+abbrev pub word_of : {A : Type 0} → List (Text × A) → Data → Read A
 word_of words tree = do
   text ← present (as_str tree)
   present (meaning words text)
@@ -77,11 +78,11 @@ some_of read tree = do
 -- ---- objects
 
 -- refused where the tree is no object, or has a key that is not named
-abbrev pub only_keys : List (List ℕ) → Data → Read ⊤
+abbrev pub only_keys : List Text → Data → Read ⊤
 only_keys names tree = given (has_keys names (as_object tree)) tt
 
 -- the tree has this key
-abbrev pub has_key : List ℕ → Data → Bool
+abbrev pub has_key : Text → Data → Bool
 has_key name tree = is_some (get name tree)
 
 -- the value that was found, as it is read, or else the default
@@ -90,11 +91,11 @@ found_or default read None = default
 found_or default read (Some tree) = read tree
 
 -- the value of a key, which has to be there
-abbrev pub required : {A : Type 0} → List ℕ → (Data → Read A) → Data → Read A
+abbrev pub required : {A : Type 0} → Text → (Data → Read A) → Data → Read A
 required name read tree = under name (found_or (Err []) read (get name tree))
 
 -- the value of a key, or the default where the key is not there
-abbrev pub optional : {A : Type 0} → List ℕ → A → (Data → Read A) → Data → Read A
+abbrev pub optional : {A : Type 0} → Text → A → (Data → Read A) → Data → Read A
 optional name default read tree = under name (found_or (Ok default) read (get name tree))
 
 -- ---- lists

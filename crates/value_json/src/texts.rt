@@ -1,19 +1,20 @@
 // The form of texts that pass a test, such as tokens and header values.
 ghost use Rattle.std.specs.Prelude.{◌≡◌, Bool, List, ℕ, IfOk};
-ghost use Rattle.wf_text.specs.Tokens.{is_token};
-ghost use Rattle.wf_text.specs.Values.{is_header_value};
+ghost use Rattle.value_text.specs.Texts.{Text};
+ghost use Rattle.value_text.specs.Tokens.{is_token};
+ghost use Rattle.value_text.specs.Values.{is_header_value};
 ghost use Rattle.value_json.specs.Reading.{any, text_that};
 
 use crate::form::{Form, refused_here};
 use crate::refused::Refused;
 use crate::tree::Tree;
 use std::alloc::Global;
-use wf_text::{Bytes, OutOfMemory, is_token, is_value};
+use value_text::{Bytes, OutOfMemory, is_token, is_value};
 
 /// A test that a text has to pass.
 pub trait TextTest {
     /// The texts that pass.
-    ghost taken: { Self → List ℕ → Bool };
+    ghost taken: { Self → Text → Bool };
 
     /// Whether the text passes. `OutOfMemory` tells want of memory alone.
     fn takes(&self, alloc: Global, text: &str) -> Result<bool, OutOfMemory>

@@ -1,9 +1,9 @@
 -- What a call does to a pass of a tape.
 use Rattle.std.specs.Prelude.{◌≡◌, ◌≢◌, ℕ, ◌+◌, List, [], ◌∷◌, ◌++◌, drop, length, Some}
-use Rattle.wf_book.specs.declared.entry.Entry.{Entry}
-use Rattle.wf_book.specs.declared.op.Op.{Op}
-use Rattle.wf_book.specs.declared.op.Reply.{Reply}
-use Rattle.wf_book.specs.Entries.{entries_of}
+use Rattle.book_calls.specs.declared.entry.Entry.{Entry}
+use Rattle.book_calls.specs.declared.op.Op.{Op}
+use Rattle.book_calls.specs.declared.op.Reply.{Reply}
+use Rattle.book_calls.specs.Entries.{entries_of}
 use Rattle.audit_replay.specs.Tapes.{Tape, first_op, stray_reply}
 
 -- The document's next entry stands at this index: none between is of the document.

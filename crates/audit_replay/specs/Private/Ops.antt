@@ -1,10 +1,11 @@
 -- Whether two ops are one, part by part.
-use Rattle.std.specs.Prelude.{ℕ, ◌==◌, ◌&&◌, Bool, true, false, List, [], ◌∷◌, bytes_eq, Option, Some, None}
-use Rattle.wf_book.specs.declared.op.Op.{Op}
-use Rattle.wf_book.specs.declared.op.Op.TheVariants.{Match, Note, Covers, Learn, Clear}
-use Rattle.wf_hsts.specs.declared.sts.Sts.{Sts}
-use Rattle.wf_precache.specs.declared.question.Lesson.{Lesson}
-use Rattle.wf_precache.specs.declared.question.Question.{Question}
+use Rattle.std.specs.Prelude.{◌==◌, ◌&&◌, Bool, true, false, List, [], ◌∷◌, bytes_eq, Option, Some, None}
+use Rattle.value_text.specs.Texts.{Text}
+use Rattle.book_calls.specs.declared.op.Op.{Op}
+use Rattle.book_calls.specs.declared.op.Op.TheVariants.{Match, Note, Covers, Learn, Clear}
+use Rattle.book_hosts.specs.declared.sts.Sts.{Sts}
+use Rattle.book_preflights.specs.declared.question.Lesson.{Lesson}
+use Rattle.book_preflights.specs.declared.question.Question.{Question}
 
 abbrev pub bool_eq : Bool → Bool → Bool
 bool_eq true true = true
@@ -12,13 +13,13 @@ bool_eq false false = true
 bool_eq true false = false
 bool_eq false true = false
 
-abbrev pub texts_eq : List (List ℕ) → List (List ℕ) → Bool
+abbrev pub texts_eq : List Text → List Text → Bool
 texts_eq [] [] = true
 texts_eq [] (text ∷ texts) = false
 texts_eq (text ∷ texts) [] = false
 texts_eq (one ∷ texts) (other ∷ others) = bytes_eq one other && texts_eq texts others
 
-abbrev pub method_eq : Option (List ℕ) → Option (List ℕ) → Bool
+abbrev pub method_eq : Option Text → Option Text → Bool
 method_eq None None = true
 method_eq (Some one) (Some other) = bytes_eq one other
 method_eq None (Some other) = false

@@ -1,5 +1,5 @@
 use Rattle.std.proofs.Common.{Err, ap}
-use Rattle.wf_print.specs.Text.{play_text}
+use Rattle.play_text.specs.Text.{play_text}
 use Rattle.audit_replay.proofs.CompareLemmas.{differs-part, differs-whole}
 use Rattle.audit_replay.proofs.compare.differs_from.Goals as goal
 

@@ -2,9 +2,9 @@ use Rattle.std.proofs.Common.{rules, ◌≡◌, ℕ, [], ◌∷◌, ◌++◌, Bo
 use Rattle.std.specs.Prelude.{◌==◌}
 use Rattle.std.proofs.lemmas.List.Elements.{All-push, All-same}
 use Rattle.std.proofs.lemmas.List.Sums.{sum_by-cons}
-use Rattle.wf_turn.specs.Counts.{times}
-use Rattle.wf_turn.specs.Passes.{left_of, made_of}
-use Rattle.wf_turn.specs.declared.pass.TurnPass.{TurnPass}
+use Rattle.book_turns.specs.Counts.{times}
+use Rattle.book_turns.specs.Passes.{left_of, made_of}
+use Rattle.book_turns.specs.declared.pass.TurnPass.{TurnPass}
 use Rattle.bench.specs.declared.turns.Played.{Played}
 use Rattle.bench.proofs.turns.open_rows.Goals as goal
 

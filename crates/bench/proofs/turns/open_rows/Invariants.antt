@@ -1,7 +1,7 @@
 use Rattle.std.proofs.Common.{◌≡◌, ℕ, ◌≤◌}
 use Rattle.std.specs.List.{All}
-use Rattle.wf_turn.specs.Counts.{times}
-use Rattle.wf_turn.specs.Passes.{left_of, made_of}
+use Rattle.book_turns.specs.Counts.{times}
+use Rattle.book_turns.specs.Passes.{left_of, made_of}
 use Rattle.bench.proofs.turns.open_rows.Given as goal
 
 abbrev pub invariant-loop-document : goal.invariant-loop-document

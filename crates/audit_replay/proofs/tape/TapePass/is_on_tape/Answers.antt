@@ -1,5 +1,5 @@
 use Rattle.std.proofs.Common.{◌∙◌, ap, length, List, ◌==◌}
-use Rattle.wf_book.specs.declared.op.Op.{Op}
+use Rattle.book_calls.specs.declared.op.Op.{Op}
 use Rattle.audit_replay.proofs.TapeLemmas.{empty-by}
 use Rattle.audit_replay.proofs.tape.TapePass.is_on_tape.Goals as goal
 

@@ -1,5 +1,5 @@
 use Rattle.std.proofs.Common.{◌∙◌, ap, position, sym, ◌==◌}
-use Rattle.wf_book.specs.declared.entry.Entry.{Entry}
+use Rattle.book_calls.specs.declared.entry.Entry.{Entry}
 use Rattle.audit_replay.proofs.TapeLemmas.{next-none, next-some}
 use Rattle.audit_replay.proofs.tape.TapePass.next.Goals as goal
 

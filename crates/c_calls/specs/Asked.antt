@@ -1,0 +1,46 @@
+-- What the calls that make a request tell, and what the handle holds after them.
+use Rattle.std.specs.Prelude.{◌≡◌, ℕ, Option, Some, None, option_and_then}
+use Rattle.value_text.specs.Texts.{Text}
+use Rattle.c_fetch.specs.Asked.{Change, chosen, header_added, load_of, text_set}
+use Rattle.c_fetch.specs.declared.asked.Asked.{Asked}
+use Rattle.c_fetch.specs.declared.asked.Choice.{Choice}
+use Rattle.c_fetch.specs.declared.asked.Words.{Words}
+use Rattle.c_calls.specs.Calls.{Done, done, done_by}
+use Rattle.c_calls.specs.Choices.{load_numbered}
+use Rattle.c_handle.specs.Codes.{yes_or_no}
+use Rattle.c_handle.specs.declared.codes.TheConstants.{NO_SUCH_NUMBER, OK}
+use Rattle.c_handle.specs.Things.{held_request}
+use Rattle.c_handle.specs.declared.thing.Thing.{Thing}
+use Rattle.c_handle.specs.declared.thing.Thing.TheVariants as thing
+
+-- the handle holds the load, or is empty
+abbrev pub IsLoadOf : Option Asked → ℕ → Option Thing → Type 0
+IsLoadOf None code held = (code ≡ NO_SUCH_NUMBER) × (held ≡ None)
+IsLoadOf (Some asked) code held = (code ≡ OK) × (held ≡ Some (thing.Request asked))
+
+abbrev pub IsLoad : ℕ → Text → ℕ → Option Thing → Type 0
+IsLoad number url = IsLoadOf (option_and_then (λ kind. load_of kind url) (load_numbered number))
+
+-- a request after a change, which was made or not
+abbrev pub change_done : Change Asked → Done
+change_done change = done (yes_or_no change.made) (Some (thing.Request change.now))
+
+-- a request with one more header
+abbrev pub add_header : Text → Text → Option Thing → Done
+add_header name value held = done_by (held_request held) (λ asked. change_done (header_added name value asked)) held
+
+-- a request with a text
+abbrev pub set_text_of : Option Words → Text → Asked → Done
+set_text_of None text asked = done NO_SUCH_NUMBER (Some (thing.Request asked))
+set_text_of (Some words) text asked = change_done (text_set words text asked)
+
+abbrev pub set_text : Option Words → Text → Option Thing → Done
+set_text words text held = done_by (held_request held) (set_text_of words text) held
+
+-- a request with a choice
+abbrev pub choose_of : Option Choice → Asked → Done
+choose_of None asked = done NO_SUCH_NUMBER (Some (thing.Request asked))
+choose_of (Some choice) asked = change_done (chosen choice asked)
+
+abbrev pub choose : Option Choice → Option Thing → Done
+choose choice held = done_by (held_request held) (choose_of choice) held

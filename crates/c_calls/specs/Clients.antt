@@ -1,0 +1,40 @@
+-- What the calls that make a client tell, and what the handle holds after them.
+use Rattle.std.specs.Prelude.{◌≡◌, ℕ, Bool, Option, Some, None, Result, Ok, Err}
+use Rattle.value_text.specs.Texts.{Text}
+use Rattle.c_rules.specs.declared.refusal.Refusal.{Refusal}
+use Rattle.value_requests.specs.declared.mode.ReferrerPolicy.{ReferrerPolicy}
+use Rattle.c_fetch.specs.Settings.{cookie_added, settings_of, with_policies}
+use Rattle.c_fetch.specs.Setups.{Setup}
+use Rattle.c_calls.specs.Calls.{Done, done, done_by}
+use Rattle.c_handle.specs.Codes.{code_of}
+use Rattle.c_calls.specs.Referrers.{policy_numbered}
+use Rattle.c_handle.specs.declared.codes.TheConstants.{NO_SUCH_NUMBER, OK}
+use Rattle.c_handle.specs.Things.{held_client}
+use Rattle.c_handle.specs.declared.thing.Thing.{Thing}
+use Rattle.c_handle.specs.declared.thing.Thing.TheVariants as thing
+
+-- the handle holds the client, or is empty
+abbrev pub IsClientOf : Result Setup Refusal → ℕ → Option Thing → Type 0
+IsClientOf (Ok settings) code held = (code ≡ OK) × (held ≡ Some (thing.Client settings))
+IsClientOf (Err refusal) code held = (code ≡ code_of refusal) × (held ≡ None)
+
+abbrev pub IsClientBy : Option ReferrerPolicy → Text → Text → ℕ → Option Thing → Type 0
+IsClientBy None url top code held = (code ≡ NO_SUCH_NUMBER) × (held ≡ None)
+IsClientBy (Some policy) url top code held = IsClientOf (settings_of url top policy) code held
+
+abbrev pub IsClient : Text → Text → ℕ → ℕ → Option Thing → Type 0
+IsClient url top number = IsClientBy (policy_numbered number) url top
+
+-- a client with the policies of one more value
+abbrev pub add_policies : Text → Bool → Option Thing → Done
+add_policies value enforced held =
+    done_by (held_client held) (λ settings. done OK (Some (thing.Client (with_policies value enforced settings)))) held
+
+-- a client with one more cookie, or as it was
+abbrev pub cookie_done : Setup → Result Setup Refusal → Done
+cookie_done settings (Ok next) = done OK (Some (thing.Client next))
+cookie_done settings (Err refusal) = done (code_of refusal) (Some (thing.Client settings))
+
+abbrev pub add_cookie : Text → Text → Option Thing → Done
+add_cookie url value held =
+    done_by (held_client held) (λ settings. cookie_done settings (cookie_added url value settings)) held

@@ -1,0 +1,5 @@
+use Rattle.std.proofs.Common.{◌≡◌, ◌++◌}
+use Rattle.c_checks.proofs.policies.add_all.Given as goal
+
+abbrev pub invariant-loop-policy : goal.invariant-loop-policy
+invariant-loop-policy l = l.policies ≡ l.initial.policies ++ l.yielded

@@ -1,0 +1,44 @@
+-- The request that rules look at: what a client asks for, and perhaps after a redirect.
+use Rattle.std.specs.Prelude.{◌==◌, ◌&&◌, [], length, nat_lt, Result, Ok, Err, if◌then◌else◌}
+use Rattle.url.specs.Parts.{Parts}
+use Rattle.value_text.specs.Texts.{Text}
+use Rattle.fetch_answers.specs.Following.{redirected_request}
+use Rattle.value_requests.specs.Requests.{current_url, is_http_url, most_redirects}
+use Rattle.value_requests.specs.declared.fault.TypeFault.{TypeFault}
+use Rattle.value_requests.specs.declared.hop.Head.{Head}
+use Rattle.value_requests.specs.declared.request.Request.{Request}
+use Rattle.c_fetch.specs.Beginning.{request_for}
+use Rattle.c_fetch.specs.Setups.{Setup}
+use Rattle.c_fetch.specs.declared.asked.Asked.{Asked}
+use Rattle.c_rules.specs.Answers.{and_then}
+use Rattle.c_rules.specs.Reading.{web_url_in}
+use Rattle.c_rules.specs.declared.refusal.Refusal.{Refusal}
+use Rattle.c_rules.specs.declared.refusal.Refusal.TheVariants.{NoRequest}
+
+-- a request, or none
+abbrev pub request_or_refusal : Result Request TypeFault → Result Request Refusal
+request_or_refusal (Ok request) = Ok request
+request_or_refusal (Err fault) = Err NoRequest
+
+-- the request that a client makes of what is asked for
+abbrev pub request_of : Setup → Asked → Result Request Refusal
+request_of settings asked = request_or_refusal (request_for settings asked)
+
+-- the head of a redirect that keeps the method
+abbrev pub plain_redirect : Head
+plain_redirect = record { status = 307; headers = [] }
+
+-- the request after such a redirect to a URL, which a request at an http or https URL can follow
+abbrev pub redirected_to : Request → Parts → Result Request Refusal
+redirected_to request url =
+    if is_http_url (current_url request) && nat_lt request.redirects most_redirects
+    then Ok (redirected_request request plain_redirect url) else Err NoRequest
+
+-- the request after such a redirect to the URL that a text gives; an empty text stands for no redirect
+abbrev pub redirected_by : Text → Request → Result Request Refusal
+redirected_by redirect request =
+    if length redirect == 0 then Ok request else and_then (web_url_in redirect) (redirected_to request)
+
+-- the request of what is asked for, perhaps after a redirect
+abbrev pub request_at : Setup → Asked → Text → Result Request Refusal
+request_at settings asked redirect = and_then (request_of settings asked) (redirected_by redirect)

@@ -1,0 +1,74 @@
+-- The request after a redirect to a URL (Fetch, section 4.5 "HTTP-redirect fetch", steps 8 to 19).
+use Rattle.std.specs.Prelude.{ℕ, ◌+◌, Bool, not, ◌==◌, ◌&&◌, ◌||◌, List, [], ◌∷◌, ◌++◌, filter, codes, bytes_eq, None}
+use Rattle.std.specs.Prelude.{if◌then◌else◌}
+use Rattle.url.specs.Parts.{Parts}
+use Rattle.value_text.specs.Texts.{Text}
+use Rattle.value_text.specs.Wildcards.{authorization}
+use Rattle.value_headers.specs.declared.headers.Header.{Header}
+use Rattle.value_headers.specs.Headers.{without}
+use Rattle.value_origins.specs.Origins.{have_same_origin}
+use Rattle.value_requests.specs.declared.hop.Head.{Head}
+use Rattle.value_requests.specs.declared.request.Request.{Request}
+use Rattle.value_requests.specs.Methods.{is_get_or_head}
+use Rattle.policy_checks.specs.PermittedNames.{has_name_among}
+use Rattle.value_requests.specs.ReferrerPolicies.{policy_of_header, policy_or}
+use Rattle.value_requests.specs.Requests.{current_url}
+
+-- ---- the method (step 12)
+
+-- a redirect of this status turns the method to GET: 301 and 302 POST, and 303 any but GET and HEAD
+abbrev pub turns_to_get : Text → ℕ → Bool
+turns_to_get method status =
+    ((status == 301 || status == 302) && bytes_eq method (codes "POST"))
+    || (status == 303 && not (is_get_or_head method))
+
+-- "request-body-header name"
+abbrev pub body_header_names : List Text
+body_header_names =
+    codes "Content-Encoding" ∷ codes "Content-Language" ∷ codes "Content-Location" ∷ codes "Content-Type" ∷ []
+
+-- the headers without those that have a request-body-header name
+abbrev pub without_body_headers : List Header → List Header
+without_body_headers headers = filter (λ header. not (has_name_among body_header_names header)) headers
+
+-- the request with the method GET, without a body and without the headers that speak of it
+abbrev pub turned_to_get : Request → Request
+turned_to_get request = record request {
+  method = codes "GET";
+  headers = without_body_headers request.headers;
+  body = None;
+}
+
+-- so it is where a redirect of this status turns its method
+abbrev pub with_method_after : ℕ → Request → Request
+with_method_after status request =
+    if turns_to_get request.method status then turned_to_get request else request
+
+-- ---- the headers (step 13)
+
+-- the request without Authorization
+abbrev pub without_authorization : Request → Request
+without_authorization request = record request { headers = without authorization request.headers }
+
+-- so it is where the URL has another origin than the current URL
+abbrev pub with_authorization_at : Parts → Request → Request
+with_authorization_at url request =
+    if have_same_origin (current_url request) url then request else without_authorization request
+
+-- ---- the referrer policy (step 19)
+
+-- the request with the referrer policy that the headers of the answer name, where they do ("set request's referrer
+-- policy on redirect", Referrer Policy, section 8.2)
+abbrev pub with_policy_of : List Header → Request → Request
+with_policy_of headers request = record request { policy = policy_or (policy_of_header headers) request.policy }
+
+-- ---- the URL list and the redirect count (steps 18 and 8)
+
+-- the request at one URL more, and redirected once more
+abbrev pub at_next : Parts → Request → Request
+at_next url request = record request { urls = request.urls ++ url ∷ []; redirects = request.redirects + 1 }
+
+-- "HTTP-redirect fetch": the request after the redirect of this head to this URL
+abbrev pub redirected_request : Request → Head → Parts → Request
+redirected_request request head url =
+    at_next url (with_policy_of head.headers (with_authorization_at url (with_method_after head.status request)))

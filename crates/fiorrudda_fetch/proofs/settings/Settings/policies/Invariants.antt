@@ -1,6 +1,0 @@
-use Rattle.std.proofs.Common.{◌≡◌, ◌++◌, drop}
-use Rattle.fiorrudda_fetch.specs.Settings.{policies_in}
-use Rattle.fiorrudda_fetch.proofs.settings.Settings.policies.Given as goal
-
-abbrev pub invariant-loop-given : goal.invariant-loop-given
-invariant-loop-given l = l.policies ++ policies_in (drop l.given-index l.given-items) ≡ policies_in l.given-items

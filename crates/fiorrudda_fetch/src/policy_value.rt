@@ -1,8 +1,0 @@
-use wf_text::Bytes;
-
-/// The value of a Content-Security-Policy header, or of a report-only one.
-#[derive(Drop)]
-pub struct PolicyValue {
-    pub value: Bytes,
-    pub enforced: bool,
-}

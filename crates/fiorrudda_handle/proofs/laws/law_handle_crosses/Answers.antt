@@ -1,5 +1,0 @@
-use Rattle.fiorrudda_handle.proofs.Crossing.{handle_sent}
-use Rattle.fiorrudda_handle.proofs.laws.law_handle_crosses.Goals as goal
-
-pub returns : goal.returns
-returns c = handle_sent

@@ -1,0 +1,26 @@
+-- What every call of the one that plays leaves.
+use Rattle.std.specs.Borrow.{Bor}
+use Rattle.book_calls.specs.Accounts.{Account}
+use Rattle.play_definitions.specs.declared.lent.Lent.{Lent}
+use Rattle.play_definitions.specs.declared.player.Player.{Player}
+use Rattle.play_definitions.proofs.Words.{ℕ, ◌+◌, ◌∙◌, ◌≡◌, ◌≤◌, Keeps, KeepsPass, refl, rules, subst, terms_of}
+
+module _ {R S L P : Type 0} {account : P → Account} {belongs : S → P → Type 0} where
+  pub keeps-then : {a b c : Player R S L P} → Keeps account belongs a b → Keeps account belongs b c
+      → Keeps account belongs a c
+  keeps-then x y = search (rules, ◌∙◌)
+
+  -- so a run goes by the same still
+  pub same-terms : {a b : Player R S L P} → Keeps account belongs a b → terms_of account b ≡ terms_of account a
+  same-terms x = rw (x.lent, x.document) refl
+
+  -- and the pass that comes back is as a call leaves it that was lent it
+  pub keeps-pass : {a b : Player R S L P} {pass : P} {most : ℕ} → Keeps account belongs a b → b.pass.now ≡ pass
+      → (account a.pass.now).left ≤ (account b.pass.now).left + most
+      → KeepsPass account (belongs a.lent.now.share.now) most a.pass.now pass
+  keeps-pass {b = b} x back few = rw (← back) (record {
+    belongs_to = subst (λ (l : Bor (Lent R S)). belongs l.now.share.now b.pass.now) x.lent x.ready.belongs_to;
+    document = x.document;
+    opening = x.opening;
+    few = few;
+  })

@@ -1,0 +1,140 @@
+-- Laws of documents' runs, over every tape and every history: a run depends on the replies of the shared book and on
+-- what the document may learn of the answers alone; and the replies on what was done under the document's key, and
+-- noted of known hosts, alone (this project's own definition).
+use Rattle.std.specs.Prelude.{◌≡◌, ◌≤◌, ◌^◌, ℕ, true, List, Some}
+use Rattle.std.specs.List.{AllByRecursion}
+use Rattle.fetch_acts.specs.declared.act.Input.{Input}
+use Rattle.book_calls.specs.declared.book.Book.{Book}
+use Rattle.book_calls.specs.declared.entry.Entry.{Entry}
+use Rattle.book_calls.specs.Entries.{Legal, entries_of}
+use Rattle.book_calls.specs.Ops.{InRange}
+use Rattle.book_calls.specs.Past.{is_of_key}
+use Rattle.script_commands.specs.Valid.{AreValid}
+use Rattle.script_events.specs.declared.events.Transcript.{Transcript}
+use Rattle.script_runs.specs.Play.{Play, run_play}
+use Rattle.script_runs.specs.Runs.{document_client, document_run}
+use Rattle.script_scenarios.specs.declared.document.Document.{Document}
+use Rattle.script_scenarios.specs.declared.scenario.Scenario.{Scenario}
+use Rattle.value_requests.specs.declared.client.Cookie.{Cookie}
+use Rattle.fetch_wire.specs.Exchanges.{Answering}
+use Rattle.fetch_views.specs.Apart.{Made, replies_on, views_on}
+use Rattle.play_isolation.specs.Alone.{alone, pasts}
+use Rattle.play_isolation.specs.Apart.{apart, plan_of}
+use Rattle.play_isolation.specs.Calls.{PartAtReply, calls_in, document_calls}
+use Rattle.play_isolation.specs.Isolated.{IsIsolated, run_in, run_of}
+use Rattle.play_definitions.specs.Plays.{IsPlay, IsPlayOver, IsTranscript, Way, opening_book}
+
+-- ---- runs over tapes
+
+-- a document's run over a tape is that over the replies of the book to its calls and the views of its answers
+abbrev pub RunsApart : Type 0
+RunsApart =
+    (cookies : List Cookie) (base : ℕ) (document : Document) (tape : List Input)
+    → let whole = document_run cookies base document in
+    run_play whole tape ≡ apart whole (replies_on (plan_of whole) tape) (views_on (plan_of whole) tape)
+
+-- each call of a document's run is one that a document of its key makes
+abbrev pub CallsOwn : Type 0
+CallsOwn =
+    (cookies : List Cookie) (base : ℕ) (document : Document) (tape : List Input)
+    → AllByRecursion (λ (call : Made). is_of_key (document_client document).key call.op ≡ true)
+    (calls_in (run_play (document_run cookies base document) tape).events)
+
+-- where the script is valid and the run begins at 2^40 seconds at the latest, each of its calls is in range
+abbrev pub CallsInRange : Type 0
+CallsInRange =
+    (cookies : List Cookie) (base : ℕ) (document : Document) (tape : List Input) → AreValid document.script
+    → base ≤ 2 ^ 40
+    → AllByRecursion (λ (call : Made). InRange call.op)
+    (calls_in (run_play (document_run cookies base document) tape).events)
+
+-- ---- runs in a history
+
+-- The calls of a run over a tape are those of its document in a legal history from the opening book.
+pub record IsIn (opening : Book) (history : List Entry) (number : ℕ) (whole : Play) (tape : List Input) : Type 0 where
+  pub legal : Legal opening history
+  pub calls : calls_in (run_play whole tape).events ≡ document_calls number history
+
+-- then the run is what the document would do alone
+abbrev pub RunsAlone : Type 0
+RunsAlone =
+    (cookies : List Cookie) (base : ℕ) (document : Document) (opening : Book) (history : List Entry) (number : ℕ)
+    (tape : List Input) → let whole = document_run cookies base document in
+    IsIn opening history number whole tape
+    → run_play whole tape
+    ≡ alone opening whole (pasts number (document_client document).key history) (views_on (plan_of whole) tape)
+
+-- in two histories from one opening book: where the pasts of the calls of a document are equal, and the views of its
+-- answers, its runs are
+abbrev pub RunsAlike : Type 0
+RunsAlike =
+    (cookies : List Cookie) (base : ℕ) (document : Document) (opening : Book) (history others : List Entry)
+    (number another : ℕ) (tape different : List Input) → let whole = document_run cookies base document in
+    let key = (document_client document).key in
+    IsIn opening history number whole tape → IsIn opening others another whole different
+    → pasts number key history ≡ pasts another key others
+    → views_on (plan_of whole) tape ≡ views_on (plan_of whole) different
+    → run_play whole tape ≡ run_play whole different
+
+-- ---- plays
+
+-- A link tells its state at the first, and has not failed since.
+pub record TellsWithoutFaults {State : Type 0} (old new : Way State) : Type 0 where
+  pub state : State
+  pub told : old.state ≡ Some state
+  pub none : new.faults ≡ 0
+
+-- A scenario, a time, a history and links that tell and do not fail determine the tape of a document's run, and what it
+-- sends and sees.
+abbrev pub TapesOnce : Type 0 → Type 0
+TapesOnce State =
+    (by : Answering State) (scenario : Scenario) (base : ℕ) (history : List Entry) (number : ℕ) (document : Document)
+    (old new : Way State) (transcript different : Transcript) → TellsWithoutFaults old new
+    → (one : IsTranscript by scenario base history number document old new transcript)
+    → (two : IsTranscript by scenario base history number document old new different)
+    → (one.run_is.ran.tape ≡ two.run_is.ran.tape) × (transcript ≡ different)
+
+-- In two histories a document's runs over such links make the same calls, up to the first that is replied to otherwise:
+-- what was replied so far determines the next call, or that there is none.
+abbrev pub CallsFollow : Type 0 → Type 0
+CallsFollow State =
+    (by : Answering State) (scenario : Scenario) (base : ℕ) (history others : List Entry) (number : ℕ)
+    (document : Document) (old new : Way State) (transcript different : Transcript) → TellsWithoutFaults old new
+    → IsTranscript by scenario base history number document old new transcript
+    → IsTranscript by scenario base others number document old new different
+    → PartAtReply (entries_of number history) (entries_of number others)
+
+-- so a scenario has one play over its servers with a history
+abbrev pub PlaysOnce : Type 0
+PlaysOnce =
+    (scenario : Scenario) (transcripts others : List Transcript) (history : List Entry)
+    → IsPlay scenario transcripts history → IsPlay scenario others history → transcripts ≡ others
+
+-- in a play what each document sends and sees is what it would alone
+abbrev pub PlaysAlone : Type 0 → Type 0
+PlaysAlone State =
+    (by : Answering State) (scenario : Scenario) (base : ℕ) (olds news : List (Way State))
+    (transcripts : List Transcript) (history : List Entry)
+    → IsPlayOver by scenario base olds news transcripts history
+    → IsIsolated by scenario base olds news transcripts history
+
+-- Two scenarios have the same known hosts and cookies.
+pub record AreAlike (scenario other : Scenario) : Type 0 where
+  pub hosts : scenario.hosts ≡ other.hosts
+  pub cookies : scenario.cookies ≡ other.cookies
+
+-- In plays of two such scenarios that begin at one time a document has the same events, ending and clock, whatever else
+-- there is in them, whatever answers and whether it fails, where the pasts of the document's calls are equal, and the
+-- views of its answers.
+abbrev pub WorldsAlike : Type 0 → Type 0 → Type 0
+WorldsAlike State Other =
+    (by : Answering State) (otherwise : Answering Other) (scenario other : Scenario) (base : ℕ)
+    (history others : List Entry) (number another : ℕ) (document : Document) (old new : Way State)
+    (before behind : Way Other) (transcript different : Transcript) → AreAlike scenario other
+    → Legal (opening_book scenario) history → Legal (opening_book other) others
+    → (one : IsTranscript by scenario base history number document old new transcript)
+    → (two : IsTranscript otherwise other base others another document before behind different)
+    → pasts number (document_client document).key history ≡ pasts another (document_client document).key others
+    → views_on (plan_of (run_in scenario base document)) one.run_is.ran.tape
+    ≡ views_on (plan_of (run_in other base document)) two.run_is.ran.tape
+    → run_of transcript ≡ run_of different

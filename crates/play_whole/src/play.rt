@@ -1,0 +1,139 @@
+// A play: the book is opened, the documents are seated and played, and the book is closed.
+ghost use Rattle.std.specs.Prelude.{◌≤◌, ◌+◌, ◌^◌, vec_capacity, vec_len, IfOk, OnErr};
+ghost use Rattle.script_events.specs.Endings.{HasText};
+ghost use Rattle.script_scenarios.specs.Valid.{IsValid};
+ghost use Rattle.fetch_wire.specs.Wires.{over_link};
+ghost use Rattle.play_whole.specs.Links.{IsPlayOverLinks, WasRefused};
+ghost use Rattle.play_seats.specs.Makers.{maker_of};
+ghost use Rattle.play_seats.specs.Seated.{AreReady};
+ghost use Rattle.play_whole.specs.Private.Seated.{AreUnseated};
+ghost use Rattle.play_whole.specs.Refused.{NoneOrAllPlayed};
+ghost use Rattle.play_definitions.specs.Plays.{IsPlay, IsPlayOver};
+
+use book_calls::History;
+use book_turns::{Closed, TurnBook, TurnPass};
+use link_routes::Links;
+use play_definitions::Seating;
+use play_documents::play_all;
+use play_faults::{law_faults_counted, law_faults_shown};
+use play_seats::{open_play, unseat};
+use play_servers::SimLinks;
+use script_events::{Transcripts, has_text};
+use script_scenarios::Scenario;
+use std::alloc::Global;
+use std::sync::Wait;
+use std::thread::Threads;
+use value_text::OutOfMemory;
+
+/// What a play has come to: what each document has shown, and the one history of the book.
+#[derive(Drop)]
+pub struct Played {
+    pub transcripts: Transcripts,
+    pub history: History,
+}
+
+// Plays each document on its seat, takes the links back, in order of documents, and closes the book.
+fn play_seated<R: Threads + Wait + Sync, N: Links>(
+    rt: &R,
+    alloc: Global,
+    scenario: &Scenario,
+    base: u64,
+    threads: usize,
+    book: TurnBook,
+    mut seats: Vec<Seating<N::Link, TurnPass>>,
+    mut passes: Vec<TurnPass>,
+    links: &mut N,
+) -> Result<Played, OutOfMemory>
+    requires valid { IsValid scenario.now }
+    requires base { base ≤ 2 ^ 40 }
+    requires ready { AreReady book.table.shared.table_id scenario.now passes.items seats.items }
+    requires room { vec_len seats + vec_len passes ≤ vec_capacity passes }
+    ensures played { IfOk result (λ played. AreUnseated N.Link.told (N.lent links.old)
+        (N.lent links.new) (N.faults links.old) (N.faults links.new) seats.items (λ olds news. IsPlayOver
+        (over_link N.Link.serves) scenario.entry.now base olds news played.transcripts played.history)) }
+    ensures refused { OnErr result (AreUnseated N.Link.told (N.lent links.old)
+        (N.lent links.new) (N.faults links.old) (N.faults links.new) seats.items
+        (NoneOrAllPlayed (over_link N.Link.serves) scenario.entry.now base)) }
+    ensures has_text { IfOk result (λ played. HasText played.transcripts) }
+{
+    let played = play_all(rt, alloc, scenario, base, &book, threads, &mut seats);
+    unseat(seats, links, &mut passes);
+    let Closed { book: _, history } = book.close(passes);
+    let transcripts = played?;
+    if has_text(&transcripts) {
+        Ok(Played {
+            transcripts,
+            history,
+        })
+    } else {
+        Err(OutOfMemory)
+    }
+}
+
+/// Plays a scenario over links, from a time in seconds on, which is at most 2^40, on at most so many threads, where
+/// these can be made: each document over the link that is made for it and over one book, which opens with the
+/// scenario's hosts. The links are made in order of documents, and taken back in the same
+/// order, also where memory was refused.
+///
+/// `OutOfMemory` where memory was refused, to a document or to what surrounds them, or where a link could not
+/// be made; then the links that were made were taken back in order of documents: they tell what they told when they
+/// were made, or, where the documents were played, what their runs have left. The calls of those runs are one legal
+/// history too.
+pub fn play_over<R: Threads + Wait + Sync, N: Links>(
+    rt: &R,
+    alloc: Global,
+    scenario: &Scenario,
+    base: u64,
+    threads: usize,
+    links: &mut N,
+) -> Result<Played, OutOfMemory>
+    requires valid { IsValid scenario.now }
+    requires base { base ≤ 2 ^ 40 }
+    ensures played { IfOk result (λ played. IsPlayOverLinks (over_link N.Link.serves) N.Link.told
+        (maker_of N.opening N.lent N.faults links.old) (maker_of N.opening N.lent N.faults links.new)
+        scenario.entry.now base played.transcripts played.history) }
+    ensures refused { OnErr result (WasRefused (over_link N.Link.serves) N.Link.told
+        (maker_of N.opening N.lent N.faults links.old) (maker_of N.opening N.lent N.faults links.new)
+        scenario.entry.now base) }
+    ensures has_text { IfOk result (λ played. HasText played.transcripts) }
+{
+    law_faults_shown();
+    law_faults_counted::<N::Link>();
+    let open = open_play(alloc, scenario, links)?;
+    play_seated(
+        rt,
+        alloc,
+        scenario,
+        base,
+        threads,
+        open.book,
+        open.seats,
+        open.passes,
+        links,
+    )
+}
+
+/// On how many threads at most documents are played over their scenario's own servers. These answer at once, so more
+/// threads than processors gain nothing, and what a document holds while it runs is held that many times at most.
+pub const SCRIPTED_THREADS: usize = 16;
+
+/// Plays a scenario over its own servers, from its own time on.
+pub fn play_scripted<R: Threads + Wait + Sync>(
+    rt: &R,
+    alloc: Global,
+    scenario: &Scenario,
+) -> Result<Played, OutOfMemory>
+    requires { IsValid scenario.now }
+    ensures played { IfOk result (λ played. IsPlay scenario.entry.now played.transcripts played.history) }
+    ensures has_text { IfOk result (λ played. HasText played.transcripts) }
+{
+    let mut links = SimLinks::new(scenario);
+    play_over(
+        rt,
+        alloc,
+        scenario,
+        scenario.now,
+        SCRIPTED_THREADS,
+        &mut links,
+    )
+}

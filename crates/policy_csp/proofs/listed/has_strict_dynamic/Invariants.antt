@@ -1,0 +1,8 @@
+use Rattle.std.proofs.Common.{◌≡◌, drop}
+use Rattle.std.specs.List.{list_any}
+use Rattle.policy_csp.specs.SourceLists.{is_strict_dynamic}
+use Rattle.policy_csp.proofs.listed.has_strict_dynamic.Given as goal
+
+-- none so far
+abbrev pub invariant-loop-index : goal.invariant-loop-index
+invariant-loop-index l = list_any is_strict_dynamic l.sources ≡ list_any is_strict_dynamic (drop l.index l.sources)

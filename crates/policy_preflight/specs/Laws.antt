@@ -1,0 +1,47 @@
+-- Laws of the CORS protocol (Fetch, "CORS check" and section 4.8 "CORS-preflight fetch").
+use Rattle.std.specs.Prelude.{◌≡◌, ◌≢◌, ◌≤◌, Bool, true, false, List, codes, Some}
+use Rattle.std.specs.Prelude.{IsTrue}
+use Rattle.std.specs.List.{list_all}
+use Rattle.value_text.specs.Texts.{Text}
+use Rattle.value_text.specs.Tokens.{is_token}
+use Rattle.value_requests.specs.Requests.{IsRequest}
+use Rattle.value_headers.specs.declared.headers.Header.{Header}
+use Rattle.value_headers.specs.Headers.{combined}
+use Rattle.value_requests.specs.declared.hop.Head.{Head}
+use Rattle.value_requests.specs.declared.request.Request.{Request}
+use Rattle.policy_checks.specs.CorsCheck.{passes_cors_check}
+use Rattle.policy_checks.specs.PermittedNames.{preflight_view}
+use Rattle.policy_preflight.specs.declared.answer.Checked.{Checked}
+use Rattle.policy_preflight.specs.declared.answer.Checked.TheVariants.{Pass, Refused}
+use Rattle.policy_preflight.specs.Verdict.{verdict}
+
+-- with credentials, an origin text other than `*` does not pass the CORS check where Access-Control-Allow-Origin is `*`
+abbrev pub CredentialsNeverByWildcard : Type 0
+CredentialsNeverByWildcard =
+    (origin : Text) (headers : List Header) → origin ≢ codes "*"
+    → combined (codes "Access-Control-Allow-Origin") headers ≡ Some (codes "*")
+    → passes_cors_check origin true headers ≡ false
+
+-- the verdict on what a document may learn of the head that answers a preflight is that on the head
+abbrev pub VerdictsAreOfViews : Type 0
+VerdictsAreOfViews =
+    (request : Request) (origin : Text) (names : List Text) (head : Head)
+    → verdict request origin names (preflight_view head) ≡ verdict request origin names head
+
+-- and so is the CORS check of it
+abbrev pub ChecksAreOfViews : Type 0
+ChecksAreOfViews =
+    (origin : Text) (include : Bool) (head : Head)
+    → passes_cors_check origin include (preflight_view head).headers ≡ passes_cors_check origin include head.headers
+
+-- what a pass teaches may be kept and told: it is for at most 7,200 seconds, and its methods and names are tokens
+abbrev pub IsLesson : Checked → Type 0
+IsLesson (Pass age methods names) =
+    (age ≤ 7200) × IsTrue (list_all is_token methods) × IsTrue (list_all is_token names)
+IsLesson (Refused reason) = Unit {0}
+
+-- so it is of every verdict on an answer to the preflight of a request
+abbrev pub PassesAreLessons : Type 0
+PassesAreLessons =
+    (request : Request) (origin : Text) (names : List Text) (head : Head) → IsRequest request
+    → IsLesson (verdict request origin names head)

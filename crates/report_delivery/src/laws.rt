@@ -1,0 +1,11 @@
+ghost use Rattle.std.specs.Prelude.{List};
+ghost use Rattle.script_events.specs.declared.events.Event.{Event};
+ghost use Rattle.report_delivery.specs.Laws.{RestOnViolations};
+ghost use Rattle.script_scenarios.specs.declared.document.Document.{Document};
+
+/// The reports of a document rest on the violations that it was told and on nothing else: two runs with the same
+/// violations have the same reports. What a violation tells of a URL is the first of the request's URL list, so a
+/// report does not show where redirects led.
+pub fn law_first_urls()
+    ensures { (document : Document) (one other : List Event) → RestOnViolations document one other }
+{}

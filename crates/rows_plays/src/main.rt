@@ -1,0 +1,177 @@
+// Plays worked rows over streams and links in memory, and prints for each what it came to. A line of the input that
+// begins with `#` is a title, which is printed as it is, and so is an empty line. The other lines are
+//
+//     a scenario, or some words, a tab and a scenario: it is played by the program's top call, or by those that report
+//     or audit. `rows.rt` says how.
+//     `url=URL ..`, a tab and what a request meets: it is fetched by itself. `requests.rt` says how.
+//     `{ .. }`, a tab and what a document meets: the lines of this kind up to an empty line are played over one book.
+//     `links.rt` says how.
+//     `net=TIME`, a tab and a scenario, and after it lines that begin with `link`, up to an empty line: it is played
+//     by the top call with the word `net`. `net.rt` says how.
+//     a word of `access.rt`, a tab and texts: a CORS server that answers by an allow table, and documents that ask it.
+//
+// Before them it plays documents on threads, over links that wait for each other: `gates.rt` by the top call,
+// `seats.rt` by `play_all` itself.
+#![tactic(auto)]
+
+mod access;
+mod fetches;
+mod gates;
+mod histories;
+mod inits;
+mod links;
+mod net;
+mod reports;
+mod requests;
+mod rows;
+mod seats;
+mod servers;
+mod serving;
+mod slow;
+mod streams;
+mod tables;
+mod waiting;
+
+use rows_shell::{Failed, Shown, is_title, print_text};
+use std::io;
+use std::process::ExitCode;
+use std::sync::Wait;
+use std::thread::Threads;
+
+// Plays the lines of a group.
+fn play_together<R: Threads + Wait + Sync + AllocGlobal>(
+    rt: &R,
+    lines: &[&str],
+    shown: &mut Shown,
+) -> Result<(), Failed> {
+    match lines {
+        [first, rest @ ..] => match first.strip_prefix("net=") {
+            Some(row) => net::play(rt, row, rest, shown),
+            None => links::play(rt, lines, shown),
+        },
+        [] => Ok(()),
+    }
+}
+
+// Whether a line is one of a group: the lines of the last two kinds, up to an empty line.
+fn stands_together(line: &str) -> bool {
+    line.starts_with("net=")
+        || line.starts_with("link")
+        || (line.starts_with('{') && line.contains('\t'))
+}
+
+// Plays a row of access, or of a program.
+fn play_row<R: Threads + Wait + Sync + AllocGlobal>(
+    rt: &R,
+    line: &str,
+    shown: &mut Shown,
+) -> Result<(), Failed> {
+    match access::kind_of(line.as_bytes()) {
+        Ok(kind) => access::play(rt, kind, line.as_bytes(), shown),
+        Err(_) => rows::play(rt, line, shown),
+    }
+}
+
+// Plays a line that is in no group.
+fn play_alone<R: Threads + Wait + Sync + AllocGlobal>(
+    rt: &R,
+    line: &str,
+    shown: &mut Shown,
+) -> Result<(), Failed> {
+    if is_title(line) {
+        shown.add(line.as_bytes());
+        shown.add(b"\n");
+        Ok(())
+    } else if line.starts_with("url=") {
+        requests::play(rt, line, shown)
+    } else {
+        play_row(rt, line, shown)
+    }
+}
+
+// Plays a line by itself, after the group before it where the line is empty and so ends one.
+fn play_end<R: Threads + Wait + Sync + AllocGlobal>(
+    rt: &R,
+    line: &str,
+    together: &mut Vec<&str>,
+    shown: &mut Shown,
+) -> Result<(), Failed> {
+    if line.is_empty() {
+        play_together(rt, together.as_slice(), shown)?;
+        together.clear();
+    }
+    play_alone(rt, line, shown)
+}
+
+// Prints what was played, unless that failed.
+fn print_played<R: Print + AllocGlobal>(
+    rt: &R,
+    played: Result<(), Failed>,
+    mut shown: Shown,
+) -> Result<(), Failed> {
+    if played.is_err() {
+        shown.fail();
+    }
+    print_text(rt, shown)
+}
+
+// Puts a line into the group, or plays it, after the group where it is the empty line that ends one.
+fn play_line<'a, R: Threads + Wait + Sync + Print + AllocGlobal>(
+    rt: &R,
+    line: &'a str,
+    together: &mut Vec<&'a str>,
+) -> Result<(), Failed> {
+    if stands_together(line) {
+        together.push(line)?;
+        return Ok(());
+    }
+    let mut shown = Shown::new(rt.alloc());
+    let played = play_end(rt, line, together, &mut shown);
+    print_played(rt, played, shown)
+}
+
+// Plays the documents on threads, by both calls.
+fn play_all<R: Threads + Wait + Sync + AllocGlobal>(
+    rt: &R,
+    shown: &mut Shown,
+) -> Result<(), Failed> {
+    gates::play(rt, shown)?;
+    shown.add(b"\n");
+    seats::play(rt, shown)
+}
+
+// Plays the documents on threads.
+fn play_threads<R: Threads + Wait + Sync + Print + AllocGlobal>(rt: &R) -> Result<(), Failed> {
+    let mut shown = Shown::new(rt.alloc());
+    let played = play_all(rt, &mut shown);
+    print_played(rt, played, shown)
+}
+
+// Plays the lines. The last of them may be a group that no empty line ends.
+fn play_lines<R: Threads + Wait + Sync + Print + AllocGlobal>(
+    rt: &R,
+    text: &str,
+) -> Result<(), Failed> {
+    let mut together = Vec::new(rt.alloc());
+    for line in text.lines() {
+        play_line(rt, line, &mut together)?;
+    }
+    let mut shown = Shown::new(rt.alloc());
+    let played = play_together(rt, together.as_slice(), &mut shown);
+    print_played(rt, played, shown)
+}
+
+fn run<R: Threads + Wait + Sync + Print + AllocGlobal>(rt: &R, text: &str) -> Result<(), Failed> {
+    play_threads(rt)?;
+    play_lines(rt, text)
+}
+
+fn main(rt: HostRuntime) -> ExitCode {
+    let Ok(text) = io::read_to_string(rt.alloc(), rt.stdin()) else {
+        return ExitCode::FAILURE;
+    };
+    match run(&rt, text.as_str()) {
+        Ok(()) => ExitCode::SUCCESS,
+        Err(_) => ExitCode::FAILURE,
+    }
+}

@@ -1,0 +1,77 @@
+-- What serving one peer comes to: what was read of it, and what was written to it.
+use Rattle.std.specs.Prelude.{◌≡◌, ℕ, ◌≤◌, ◌⊎◌, List, length, Option, Some}
+use Rattle.value_text.specs.Texts.{Text}
+use Rattle.link_traits.specs.Counts.{Rose}
+use Rattle.link_traits.specs.Sinks.{SinkTold, Took, TookPart}
+use Rattle.link_traits.specs.Sources.{Gave, IsAtEnd, SourceTold}
+use Rattle.link_http1.specs.RequestHeads.{IsRead}
+use Rattle.link_http1.specs.declared.request_head.Asked.{Asked}
+use Rattle.server_tables.specs.Served.{IsReply, IsServed, Reply, reply_bytes}
+use Rattle.server_tables.specs.declared.serving.Served.{Served}
+use Rattle.server_tables.specs.declared.serving.Served.TheVariants as served
+use Rattle.server_tables.specs.declared.table.Row.{Row}
+
+-- how many bytes are read of a peer at most
+abbrev pub most_read : ℕ
+most_read = 65536
+
+-- what a peer tells
+pub record PeerTold : Type 0 where
+  pub source : SourceTold
+  pub sink : SinkTold
+
+abbrev pub peer_told : {P : Type 0} → (P → SourceTold) → (P → SinkTold) → P → PeerTold
+peer_told gives takes peer = record { source = gives peer; sink = takes peer }
+
+-- a sink failed, or took nothing of a piece that is not empty
+abbrev pub Failed : SinkTold → SinkTold → Type 0
+Failed old new = Rose old.faults new.faults ⊎ Rose old.zeros new.zeros
+
+-- the bytes read suffice: they have a request head, or are all that the source had, or as many as are read at most
+abbrev pub Suffice : Option Text → Text → Type 0
+Suffice left bytes = ((asked : Asked) × IsRead bytes (Some asked)) ⊎ IsAtEnd left ⊎ (length bytes ≡ most_read)
+
+-- these bytes were read, and they suffice
+pub record Heard (old new : SourceTold) (bytes : Text) : Type 0 where
+  pub gave : Gave old.left new.left bytes
+  pub few : length bytes ≤ most_read
+  pub suffice : Suffice new.left bytes
+
+-- the reply to the bytes read was written whole
+pub record Answered (table : List Row) (old new : PeerTold) (status : ℕ) : Type 0 where
+  pub bytes : Text
+  pub heard : Heard old.source new.source bytes
+  pub reply : Reply
+  pub is_reply : IsReply table bytes reply
+  pub status_is : status ≡ reply.status
+  pub took : Took old.sink.taken new.sink.taken (reply_bytes reply)
+
+-- the reply to the bytes read was not written whole: the sink failed, or took nothing of a piece
+pub record WasCut (table : List Row) (old new : PeerTold) : Type 0 where
+  pub bytes : Text
+  pub heard : Heard old.source new.source bytes
+  pub answer : Text
+  pub is_served : IsServed table bytes answer
+  pub took : TookPart old.sink.taken new.sink.taken answer
+  pub cause : Failed old.sink new.sink
+
+-- the source failed, and nothing was written
+pub record WasUnheard (old new : PeerTold) : Type 0 where
+  pub bytes : Text
+  pub gave : Gave old.source.left new.source.left bytes
+  pub few : length bytes ≤ most_read
+  pub cause : Rose old.source.faults new.source.faults
+  pub sink : new.sink ≡ old.sink
+
+-- memory was refused, and nothing was written
+pub record RanShort (old new : PeerTold) : Type 0 where
+  pub bytes : Text
+  pub gave : Gave old.source.left new.source.left bytes
+  pub few : length bytes ≤ most_read
+  pub sink : new.sink ≡ old.sink
+
+abbrev pub IsServing : List Row → PeerTold → PeerTold → Served → Type 0
+IsServing table old new (served.Answered status) = Answered table old new status
+IsServing table old new served.ReadFault = WasUnheard old new
+IsServing table old new served.WriteFault = WasCut table old new
+IsServing table old new served.OutOfMemory = RanShort old new

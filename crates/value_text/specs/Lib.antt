@@ -1,0 +1,13 @@
+pub mod Ascii
+pub mod Base64
+pub mod Digits
+pub mod Mime
+pub mod Orders
+pub mod Pieces
+pub mod Private
+pub mod Texts
+pub mod Tokens
+pub mod Trims
+pub mod Values
+pub mod Wildcards
+pub mod Words

@@ -1,5 +1,0 @@
-use Rattle.wf_audit.proofs.OnceLemmas.{one-verdict}
-use Rattle.wf_audit.proofs.laws.law_one_verdict.Goals as goal
-
-pub returns : goal.returns
-returns c = one-verdict c.law_one_reading.ensures.history c.law_one_reading.ensures.reading c.law_one_play.ensures.plays

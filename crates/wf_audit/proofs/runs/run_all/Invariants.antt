@@ -1,6 +1,0 @@
-use Rattle.wf_audit.proofs.DocumentLemmas.{CameSoFar}
-use Rattle.wf_audit.proofs.runs.run_all.Given as goal
-
--- the documents so far came to their transcripts
-abbrev pub invariant-loop-number : goal.invariant-loop-number
-invariant-loop-number g l = CameSoFar l.fn.scenario l.fn.history l.number l.transcripts

@@ -1,9 +1,0 @@
-use Rattle.wf_audit_text.proofs.OneLemmas.{one-text}
-use Rattle.wf_audit_text.proofs.OnceLemmas.{reads-once}
-use Rattle.wf_audit_text.proofs.laws.law_one_reading.Goals as goal
-
-pub returns-clause-history : goal.returns-clause-history
-returns-clause-history c = one-text c.law_one_history.ensures
-
-pub returns-clause-reading : goal.returns-clause-reading
-returns-clause-reading c = reads-once c.law_one_history.ensures

@@ -1,5 +1,0 @@
-use Rattle.std.proofs.Common.{◌≡◌, map, take}
-use Rattle.wf_audit_text.proofs.lists.copies.Given as goal
-
-abbrev pub invariant-loop-part : goal.invariant-loop-part
-invariant-loop-part l = l.list.items ≡ map (λ part. part.now) (take l.part-index l.parts)

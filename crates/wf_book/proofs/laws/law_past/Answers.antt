@@ -1,5 +1,0 @@
-use Rattle.wf_book.proofs.PastLemmas.{past-replies}
-use Rattle.wf_book.proofs.laws.law_past.Goals as goal
-
-pub returns : goal.returns
-returns c = past-replies c.law_lessons.ensures c.law_clears.ensures

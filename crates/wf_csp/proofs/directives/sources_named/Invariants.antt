@@ -1,7 +1,0 @@
-use Rattle.std.proofs.Common.{◌≡◌, drop}
-use Rattle.wf_csp.specs.Directives.{sources_named}
-use Rattle.wf_csp.proofs.directives.sources_named.Given as goal
-
-abbrev pub invariant-loop-directive : goal.invariant-loop-directive
-invariant-loop-directive l =
-    sources_named l.name (drop l.directive-index l.directives) ≡ sources_named l.name l.directives

@@ -1,8 +1,0 @@
-use Rattle.wf_decimal.proofs.DecimalLemmas.{number-read, number-writes}
-use Rattle.wf_decimal.proofs.laws.law_decimals.Goals as goal
-
-pub returns-clause-read : goal.returns-clause-read
-returns-clause-read c = number-read
-
-pub returns-clause-only : goal.returns-clause-only
-returns-clause-only c = number-writes

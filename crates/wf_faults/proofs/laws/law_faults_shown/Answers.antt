@@ -1,9 +1,0 @@
-use Rattle.wf_faults.proofs.NumberLemmas.{faults-shown}
-use Rattle.wf_faults.proofs.RunLemmas.{faults-placed}
-use Rattle.wf_faults.proofs.laws.law_faults_shown.Goals as goal
-
-pub returns-clause-placed : goal.returns-clause-placed
-returns-clause-placed c = faults-placed
-
-pub returns-clause-shown : goal.returns-clause-shown
-returns-clause-shown c = faults-shown

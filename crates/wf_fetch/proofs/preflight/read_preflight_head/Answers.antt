@@ -1,4 +1,0 @@
-use Rattle.wf_fetch.proofs.preflight.read_preflight_head.Goals as goal
-
-pub returns-then-sent : goal.returns-then-sent
-returns-then-sent c = rw c.if-sent.true c.going.ensures

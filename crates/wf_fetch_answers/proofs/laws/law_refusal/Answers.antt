@@ -1,5 +1,0 @@
-use Rattle.wf_fetch_answers.proofs.LawLemmas.{keeps_refusal}
-use Rattle.wf_fetch_answers.proofs.laws.law_refusal.Goals as goal
-
-pub returns : goal.returns
-returns c = keeps_refusal

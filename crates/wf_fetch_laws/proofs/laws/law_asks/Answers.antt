@@ -1,5 +1,0 @@
-use Rattle.wf_fetch_laws.proofs.OwnLemmas.{run-asks}
-use Rattle.wf_fetch_laws.proofs.laws.law_asks.Goals as goal
-
-pub returns : goal.returns
-returns c = run-asks

@@ -1,5 +1,0 @@
-use Rattle.wf_fetch_laws.proofs.OwnLemmas.{run-own}
-use Rattle.wf_fetch_laws.proofs.laws.law_own_ops.Goals as goal
-
-pub returns : goal.returns
-returns c = run-own

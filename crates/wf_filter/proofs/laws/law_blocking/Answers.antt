@@ -1,5 +1,0 @@
-use Rattle.wf_filter.proofs.LawLemmas.{keeps_blocking}
-use Rattle.wf_filter.proofs.laws.law_blocking.Goals as goal
-
-pub returns : goal.returns
-returns c = keeps_blocking

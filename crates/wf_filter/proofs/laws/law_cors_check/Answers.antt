@@ -1,5 +1,0 @@
-use Rattle.wf_filter.proofs.LawLemmas.{keeps_cors_check}
-use Rattle.wf_filter.proofs.laws.law_cors_check.Goals as goal
-
-pub returns : goal.returns
-returns c = keeps_cors_check

@@ -1,5 +1,0 @@
-use Rattle.wf_filter.proofs.LawLemmas.{keeps_known_host}
-use Rattle.wf_filter.proofs.laws.law_known_host.Goals as goal
-
-pub returns : goal.returns
-returns c = keeps_known_host

@@ -1,7 +1,0 @@
-use Rattle.std.proofs.Common.{◌≡◌, drop}
-use Rattle.std.specs.List.{list_all}
-use Rattle.wf_text.specs.Tokens.{is_token}
-use Rattle.wf_headers.proofs.extract.are_tokens.Given as goal
-
-abbrev pub invariant-loop-index : goal.invariant-loop-index
-invariant-loop-index l = list_all is_token l.texts ≡ list_all is_token (drop l.index l.texts)

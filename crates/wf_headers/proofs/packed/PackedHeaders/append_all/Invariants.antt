@@ -1,6 +1,0 @@
-use Rattle.std.proofs.Common.{◌≡◌, drop}
-use Rattle.wf_headers.specs.Headers.{all_appended}
-use Rattle.wf_headers.proofs.packed.PackedHeaders.append_all.Given as goal
-
-abbrev pub invariant-loop-header : goal.invariant-loop-header
-invariant-loop-header l = all_appended l.more l.fn.self ≡ all_appended (drop l.header-index l.more) l.self

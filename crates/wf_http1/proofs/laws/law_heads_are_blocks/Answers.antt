@@ -1,5 +1,0 @@
-use Rattle.wf_http1.proofs.HeadLemmas.{head-shortest}
-use Rattle.wf_http1.proofs.laws.law_heads_are_blocks.Goals as goal
-
-pub returns : goal.returns
-returns c = head-shortest

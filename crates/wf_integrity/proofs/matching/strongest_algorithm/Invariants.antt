@@ -1,9 +1,0 @@
-use Rattle.std.proofs.Common.{◌≡◌, drop, max}
-use Rattle.std.specs.List.{fold}
-use Rattle.wf_integrity.specs.Matching.{strongest_algorithm}
-use Rattle.wf_integrity.proofs.matching.strongest_algorithm.Given as goal
-
-abbrev pub invariant-loop-hash : goal.invariant-loop-hash
-invariant-loop-hash l =
-    fold (λ strongest hash. max strongest hash.algorithm) l.strongest (drop l.hash-index l.metadata)
-    ≡ strongest_algorithm l.metadata

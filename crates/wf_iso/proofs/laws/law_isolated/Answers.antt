@@ -1,5 +1,0 @@
-use Rattle.wf_iso.proofs.PlayLemmas.{plays-alone}
-use Rattle.wf_iso.proofs.laws.law_isolated.Goals as goal
-
-pub returns : goal.returns
-returns g c = plays-alone c.law_pasts.ensures g.L.Link.State

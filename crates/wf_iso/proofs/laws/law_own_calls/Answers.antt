@@ -1,8 +1,0 @@
-use Rattle.wf_iso.proofs.HistoryLemmas.{calls-in_range, calls-own}
-use Rattle.wf_iso.proofs.laws.law_own_calls.Goals as goal
-
-pub returns-clause-key : goal.returns-clause-key
-returns-clause-key c = calls-own
-
-pub returns-clause-range : goal.returns-clause-range
-returns-clause-range c = calls-in_range

@@ -1,5 +1,0 @@
-use Rattle.wf_iso.proofs.TranscriptLemmas.{calls-follow}
-use Rattle.wf_iso.proofs.laws.law_same_calls.Goals as goal
-
-pub returns : goal.returns
-returns g c = calls-follow c.law_one_end.ensures g.L.Link.State

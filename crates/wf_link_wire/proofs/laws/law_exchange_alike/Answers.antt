@@ -1,5 +1,0 @@
-use Rattle.wf_link_wire.proofs.LawLemmas.{exchange-alike}
-use Rattle.wf_link_wire.proofs.laws.law_exchange_alike.Goals as goal
-
-pub returns : goal.returns
-returns g c = exchange-alike

@@ -1,5 +1,0 @@
-use Rattle.wf_origin.proofs.SerializationLemmas.{serialized-as_url}
-use Rattle.wf_origin.proofs.laws.law_serialized_as_url.Goals as goal
-
-pub returns : goal.returns
-returns c = serialized-as_url c.args.url.now c.scheme.ensures.valid

@@ -1,8 +1,0 @@
-use Rattle.std.proofs.Common.{◌≡◌, ◌++◌}
-use Rattle.wf_precache.specs.Private.Partitions.{listed}
-use Rattle.wf_precache.proofs.walk.copies.Given as goal
-
--- the copies so far and those of what is left are those of all
-abbrev pub invariant-loop-key : goal.invariant-loop-key
-invariant-loop-key l =
-    l.entries.items ++ listed (λ key. key.items) l.key-iterator ≡ listed (λ key. key.items) l.partitions.entries

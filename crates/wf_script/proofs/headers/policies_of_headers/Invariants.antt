@@ -1,8 +1,0 @@
-use Rattle.std.proofs.Common.{◌≡◌, ◌++◌, drop}
-use Rattle.std.specs.List.{flat_map}
-use Rattle.wf_script.specs.Headers.{policies_of_header}
-use Rattle.wf_script.proofs.headers.policies_of_headers.Given as goal
-
-abbrev pub invariant-loop-header : goal.invariant-loop-header
-invariant-loop-header l =
-    l.policies ++ flat_map policies_of_header (drop l.header-index l.headers) ≡ flat_map policies_of_header l.headers

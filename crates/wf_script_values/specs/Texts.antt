@@ -1,7 +1,0 @@
--- Texts that a scenario may hold.
-use Rattle.std.specs.Prelude.{ℕ, ◌&&◌, Bool, nat_le, List, length}
-use Rattle.wf_text.specs.Values.{is_header_value}
-
--- a header value (Fetch, section 2.2.2) of 1 to 4,096 bytes
-abbrev pub is_cookie_value : List ℕ → Bool
-is_cookie_value text = nat_le 1 (length text) && nat_le (length text) 4096 && is_header_value text

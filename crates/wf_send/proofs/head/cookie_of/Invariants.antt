@@ -1,6 +1,0 @@
-use Rattle.std.proofs.Common.{◌≡◌, drop}
-use Rattle.wf_send.specs.Heads.{cookie_of}
-use Rattle.wf_send.proofs.head.cookie_of.Given as goal
-
-abbrev pub invariant-loop-cookie : goal.invariant-loop-cookie
-invariant-loop-cookie l = cookie_of l.origin l.cookies ≡ cookie_of l.origin (drop l.cookie-index l.cookies)

@@ -1,7 +1,0 @@
-use Rattle.std.proofs.Common.{◌∙◌, ap, sym}
-use Rattle.wf_server.specs.Served.{reply_to}
-use Rattle.wf_server.proofs.laws.law_one_reply.Goals as goal
-
-pub returns : goal.returns
-returns c = λ table bytes a b one two.
-    one.2 ∙ ap (reply_to table) (c.law_one_request.ensures.one bytes one.0 two.0 one.1 two.1) ∙ sym two.2

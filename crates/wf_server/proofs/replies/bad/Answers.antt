@@ -1,6 +1,0 @@
-use Rattle.std.proofs.Common.{◌∙◌}
-use Rattle.wf_server.proofs.ReplyLemmas.{bad-bytes}
-use Rattle.wf_server.proofs.replies.bad.Goals as goal
-
-pub returns : goal.returns
-returns c = λ i. record { status = 400; bytes = (c.in_ok-of.ensures ∙ bad-bytes) i }

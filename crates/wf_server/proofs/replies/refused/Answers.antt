@@ -1,6 +1,0 @@
-use Rattle.std.proofs.Common.{◌∙◌}
-use Rattle.wf_server.proofs.ReplyLemmas.{refused-bytes}
-use Rattle.wf_server.proofs.replies.refused.Goals as goal
-
-pub returns : goal.returns
-returns c = λ i. record { status = 403; bytes = (c.in_ok-of.ensures ∙ refused-bytes) i }

@@ -1,4 +1,0 @@
-use Rattle.wf_server.proofs.serving.serve.Goals as goal
-
-pub returns-in-Err : goal.returns-in-Err
-returns-in-Err g c = c.in-Err.ensures.stopped c.args.table.now

@@ -1,5 +1,0 @@
-use Rattle.wf_server_access.proofs.ReadableLemmas.{plain-readable}
-use Rattle.wf_server_access.proofs.law_readable.Goals as goal
-
-pub returns : goal.returns
-returns c = plain-readable

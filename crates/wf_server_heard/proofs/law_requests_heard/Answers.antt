@@ -1,5 +1,0 @@
-use Rattle.wf_server_heard.proofs.HopLemmas.{request-heard}
-use Rattle.wf_server_heard.proofs.law_requests_heard.Goals as goal
-
-pub returns : goal.returns
-returns c = request-heard

@@ -1,7 +1,0 @@
--- Where the server of an origin is reached (the routes of a scenario, which is played over the network).
-use Rattle.std.specs.Prelude.{ℕ, List, Option, find, option_map, bytes_eq}
-use Rattle.play_links.specs.declared.routes.Route.{Route}
-
--- the address of the first route of the origin
-abbrev pub address_of : List Route → List ℕ → Option (List ℕ)
-address_of routes origin = option_map (λ route. route.address) (find (λ route. bytes_eq route.origin origin) routes)

@@ -1,5 +1,0 @@
-use Rattle.wf_book.proofs.SoloLemmas.{kind-of}
-use Rattle.wf_turn.proofs.turn.work.Goals as goal
-
-pub returns-clause-kind : goal.returns-clause-kind
-returns-clause-kind c = kind-of _ c.args.op c.apply.result c.apply.ensures.reply

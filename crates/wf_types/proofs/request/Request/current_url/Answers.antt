@@ -1,5 +1,0 @@
-use Rattle.wf_types.proofs.UrlLemmas.{last-got}
-use Rattle.wf_types.proofs.request.Request.current_url.Goals as goal
-
-pub returns : goal.returns
-returns c = last-got _ _ _ _ c.requires c.len.ensures c.at.ensures

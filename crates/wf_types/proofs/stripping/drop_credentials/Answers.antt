@@ -1,9 +1,0 @@
-use Rattle.std.proofs.Common.{[], rules}
-use Rattle.wf_types.proofs.StripLemmas.{username-dropped, password-dropped}
-use Rattle.wf_types.proofs.stripping.drop_credentials.Goals as goal
-
-pub returns : goal.returns
-returns c =
-    let name = username-dropped c.args.url.now c.requires in
-    let word = password-dropped (record c.args.url.now { username = [] }) c.requires in
-    search rules

@@ -1,6 +1,0 @@
-use Rattle.wf_types.proofs.TargetLemmas.{target-lacks_space}
-use Rattle.wf_types.proofs.target.target_of.Goals as goal
-
-pub returns-clause-no_space : goal.returns-clause-no_space
-returns-clause-no_space c = λ http.
-    rw c.path_and_query.ensures.value (target-lacks_space c.args.url.now c.path_and_query.ensures.valid http)

@@ -1,7 +1,0 @@
--- Sets of texts, seen as lists of them.
-use Rattle.std.specs.Prelude.{ℕ, Bool, List, bytes_eq}
-use Rattle.std.specs.List.{list_any}
-
--- one of the texts is this one, byte for byte
-abbrev pub has_text : List (List ℕ) → List ℕ → Bool
-has_text texts text = list_any (λ item. bytes_eq item text) texts

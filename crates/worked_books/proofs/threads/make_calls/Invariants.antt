@@ -1,8 +1,0 @@
-use Rattle.std.proofs.Common.{◌≡◌, ◌+◌, ◌≤◌}
-use Rattle.wf_turn.specs.Passes.{left_of}
-use Rattle.worked_books.proofs.threads.make_calls.Given as goal
-
-abbrev pub invariant-loop-number : goal.invariant-loop-number
-invariant-loop-number g l =
-    (l.pass.seat.table_id ≡ l.initial.pass.seat.table_id) × (l.pass.document ≡ l.initial.pass.document)
-    × (500 ≤ left_of l.pass + l.number)

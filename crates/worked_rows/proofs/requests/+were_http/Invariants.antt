@@ -1,5 +1,0 @@
-use Rattle.std.proofs.Common.{length}
-use Rattle.worked_rows.proofs.requests.+were_http.Given as goal
-
-abbrev pub decreases-were_http : goal.decreases-were_http
-decreases-were_http l = length l.urls.now
