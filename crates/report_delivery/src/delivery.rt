@@ -1,5 +1,5 @@
 // The delivery of a document's reports.
-ghost use Rattle.std.specs.Prelude.{◌≡◌, ◌<◌, ◌≤◌, ◌^◌, [], ◌∷◌, length, slice_get, option_map, Some, IfOk, OnOk};
+ghost use Rattle.std.specs.Prelude.{◌≡◌, ◌++◌, ◌<◌, ◌≤◌, ◌^◌, [], ◌∷◌, length, slice_get, option_map, Some, IfOk, OnOk};
 ghost use Rattle.link_traits.specs.Sources.{IsAtEnd};
 ghost use Rattle.play_definitions.specs.Worlds.{KeepsPass, most_calls, outside};
 ghost use Rattle.script_runs.specs.Runs.{after_events, beginning, document_client, fetch_limit};
@@ -78,6 +78,16 @@ impl Model for Log {
     ghost invariant = { λ log. log.reports ≤ most_fetches };
 }
 
+// Shows events, in order.
+fn add_all(shown: &mut Shown, events: Events) -> Result<(), OutOfMemory>
+    ensures { OnOk result (shown.new ≡ shown.old ++ events) }
+{
+    for event in events.into_vec() {
+        shown.add(event)?;
+    }
+    Ok(())
+}
+
 impl Log {
     // Nothing was played. It takes no memory.
     fn new(alloc: Global, clock: u64) -> Log
@@ -104,16 +114,6 @@ impl Log {
         }
     }
 
-    // Adds events, in order.
-    fn add_all(&mut self, events: Events) -> Result<(), OutOfMemory>
-        ensures { OnOk result (self.new ≡ after_events events self.old) }
-    {
-        for event in events.into_vec() {
-            self.shown.add(event)?;
-        }
-        Ok(())
-    }
-
     // Adds a report that was played: what it has shown, and its result. Fewer than 1,024 were played.
     fn add_report(&mut self, run: FetchRun) -> Result<(), OutOfMemory>
         requires { self.old.fetches < most_fetches }
@@ -121,7 +121,7 @@ impl Log {
             (after_events run.events (fetch_started self.old))) }
     {
         self.reports += 1;
-        self.add_all(run.events)?;
+        add_all(&mut self.shown, run.events)?;
         self.shown.add(Event::Result(run.outcome))
     }
 
