@@ -3,6 +3,7 @@
 // was taken back, how often all failed, what was complained, and what was written.
 use crate::links::{link_in, tell};
 use crate::streams::{Streams, words_of};
+use link_routes::MemoryLinks;
 use rows_shell::{Failed, Held, Shown, number};
 use std::alloc::Global;
 use std::sync::Wait;

@@ -17,6 +17,7 @@
 use crate::histories::{show_joint, show_shared};
 use crate::reports::{audit, framed, report, show_requests};
 use crate::streams::{Streams, text_of, words_of};
+use link_routes::MemoryLinks;
 use rows_shell::{Failed, Held, Shown, has_word, named, number, texts_between, value_of};
 use std::alloc::Global;
 use std::sync::Wait;
