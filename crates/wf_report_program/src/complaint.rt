@@ -12,7 +12,11 @@ fn write_complaint<E: Sink>(complaints: &mut E, verdict: &ReportStatus) -> Resul
     match verdict {
         Status::Ok | Status::OwnFault => Ok(()),
         Status::Usage => complain(complaints, b"cspreport: fault 1", b""),
-        Status::Refused(place) => complain(complaints, b"cspreport: fault 2 at ", place.text.as_slice()),
+        Status::Refused(place) => complain(
+            complaints,
+            b"cspreport: fault 2 at ",
+            place.text.as_slice(),
+        ),
         Status::ReadFault => complain(complaints, b"cspreport: fault 3", b""),
         Status::WriteFault => complain(complaints, b"cspreport: fault 4", b""),
         Status::OutOfMemory => complain(complaints, b"cspreport: fault 5", b""),

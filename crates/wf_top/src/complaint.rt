@@ -12,16 +12,28 @@ fn write_complaint<E: Sink>(complaints: &mut E, verdict: &PlayStatus) -> Result<
     match verdict {
         Status::Ok | Status::OwnFault => Ok(()),
         Status::Usage => {
-            complain(complaints, b"fetchplay: usage: fetchplay play | net | gen N", b"")
+            complain(
+                complaints,
+                b"fetchplay: usage: fetchplay play | net | gen N",
+                b"",
+            )
         }
         Status::Refused(place) => {
-            complain(complaints, b"fetchplay: scenario refused at ", place.text.as_slice())
+            complain(
+                complaints,
+                b"fetchplay: scenario refused at ",
+                place.text.as_slice(),
+            )
         }
         Status::ReadFault => complain(complaints, b"fetchplay: reading failed", b""),
         Status::WriteFault => complain(complaints, b"fetchplay: writing failed", b""),
         Status::OutOfMemory => complain(complaints, b"fetchplay: out of memory", b""),
         Status::InputTooLong => {
-            complain(complaints, b"fetchplay: input longer than 4194304 bytes", b"")
+            complain(
+                complaints,
+                b"fetchplay: input longer than 4194304 bytes",
+                b"",
+            )
         }
     }
 }
