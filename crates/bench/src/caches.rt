@@ -1,3 +1,4 @@
+// The preflight cache: how long a question takes beside many keys.
 use crate::lessons::{lesson, question};
 use crate::words::{count_in, numbered};
 use book_preflights::{Lesson, Precache, Question};

@@ -1,3 +1,4 @@
+// Filtered responses: how long exposing and hiding the headers of a head takes.
 ghost use Rattle.value_requests.specs.Requests.{IsRequest};
 
 use crate::words::{count_in, numbered};

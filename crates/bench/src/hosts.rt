@@ -1,3 +1,4 @@
+// Known hosts: how long a question takes beside many of them.
 use crate::words::{count_in, numbered};
 use book_hosts::{HstsList, Sts};
 use rows_shell::{Failed, Row};

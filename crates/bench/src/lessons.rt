@@ -1,3 +1,4 @@
+// What preflights teach, and the questions about it, that the other measures ask with.
 ghost use Rattle.std.specs.Prelude.{◌≡◌, IfOk};
 
 use book_preflights::{Lesson, Names, Question};

@@ -1,3 +1,4 @@
+// Content security policies: how long it takes to check a request against many words.
 ghost use Rattle.value_requests.specs.Requests.{IsRequest};
 
 use crate::words::count_in;

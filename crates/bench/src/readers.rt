@@ -1,3 +1,4 @@
+// HTTP/1.1: how long it takes to read heads and bodies that come in pieces.
 ghost use Rattle.std.specs.Prelude.{◌<◌};
 
 use crate::words::{count_in, some_in};

@@ -1,3 +1,4 @@
+// The shared book: how many calls threads get through that take turns on it.
 ghost use Rattle.std.specs.Prelude.{◌≡◌, ℕ, ◌≤◌, ◌<◌, ◌^◌, [], IfOk};
 ghost use Rattle.std.specs.List.{All};
 ghost use Rattle.book_calls.specs.Ops.{InRange};

@@ -1,3 +1,4 @@
+// The numbers in the words of the program, and texts with a number in them.
 ghost use Rattle.std.specs.Prelude.{◌<◌, IfOk};
 
 use rows_shell::{Failed, Row, Shown, number};

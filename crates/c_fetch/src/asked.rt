@@ -1,3 +1,4 @@
+// What a caller asks for, a `fetch` or a load, made up of texts and choices one by one.
 ghost use Rattle.std.specs.Prelude.{◌≡◌, IfOk, OnErr};
 ghost use Rattle.c_fetch.specs.Asked as spec;
 

@@ -1,3 +1,4 @@
+// The start of a whole fetch: the request of what is asked for, or why there is none.
 ghost use Rattle.std.specs.Prelude.{◌≡◌, ◌≢◌, ◌≤◌, ◌<◌, ◌^◌, IfErr, IfOk};
 ghost use Rattle.value_requests.specs.Requests.{IsRequest};
 ghost use Rattle.c_fetch.specs.Beginning.{begun_as, request_for, IsBegun};

@@ -1,3 +1,4 @@
+// What a script asks of `fetch`, while it is made up.
 ghost use Rattle.std.specs.Prelude.{◌≡◌, IfOk, OnErr, OnOk};
 
 use crate::asked::{Choice, Words};

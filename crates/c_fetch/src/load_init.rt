@@ -1,3 +1,4 @@
+// What an element asks of a load, while it is made up.
 ghost use Rattle.std.specs.Prelude.{◌≡◌, IfOk};
 
 use crate::asked::{Choice, Words};

@@ -1,3 +1,4 @@
+// The value of a policy's header, as it was given.
 use value_text::Bytes;
 
 /// The value of a Content-Security-Policy header, or of a report-only one.

@@ -1,3 +1,4 @@
+// A document that fetches: its client, policies and cookies, read from texts.
 ghost use Rattle.std.specs.Prelude.{◌≡◌, ◌≢◌, ◌++◌, IfErr, IfOk, IsTrue, OnErr, OnOk};
 ghost use Rattle.c_rules.specs.Answers.{IsUnlessMemory};
 ghost use Rattle.c_rules.specs.Reading as reading;

@@ -1,3 +1,4 @@
+// Why a rule that is asked of texts has no answer.
 use value_text::OutOfMemory;
 
 /// Why a call has no answer.

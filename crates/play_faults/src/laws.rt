@@ -1,3 +1,4 @@
+// Laws of the faults of a link: where they show in a run, and how many there are.
 ghost use Rattle.play_faults.specs.Laws as laws;
 
 use link_traits::Link;

@@ -1,3 +1,4 @@
+// Laws of isolation: on what alone a document's run rests.
 ghost use Rattle.play_isolation.specs.Hidden as hidden;
 ghost use Rattle.play_isolation.specs.Laws as laws;
 

@@ -1,3 +1,4 @@
+// Why a text was not printed whole.
 use link_traits::WriteFault;
 use value_text::OutOfMemory;
 

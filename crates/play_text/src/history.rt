@@ -1,3 +1,4 @@
+// The printed lines of the history of the book.
 ghost use Rattle.std.specs.Prelude.{◌≡◌, ◌++◌, IfOk, OnOk};
 ghost use Rattle.std.specs.List.{flat_map};
 ghost use Rattle.play_text.specs.Text as spec;

@@ -1,3 +1,4 @@
+// A law of printed histories: no two of them have one text.
 ghost use Rattle.play_text.specs.Laws.{HasOneHistory};
 
 /// Two histories with one text are one history, where each word of theirs has no space, each method and name is none of

@@ -1,3 +1,4 @@
+// A text in the making: small pieces are gathered before they come to it.
 ghost use Rattle.std.specs.Prelude.{◌≡◌, ◌++◌, [], IfOk, OnOk};
 
 use arrayvec::ArrayVec;

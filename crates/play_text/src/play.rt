@@ -1,3 +1,4 @@
+// The printed text of a play: each document's transcript, and the history.
 ghost use Rattle.std.specs.Prelude.{◌≡◌, ◌≤◌, ◌++◌, Err, IfOk, OnOk, OnErr};
 ghost use Rattle.std.specs.List.{flat_map};
 ghost use Rattle.link_traits.specs.Counts.{Rose};

@@ -1,3 +1,4 @@
+// The summary of a play: its counts, a line each.
 ghost use Rattle.std.specs.Prelude.{◌≡◌, ◌≤◌, ◌++◌, codes, length, filter, Err, IfOk, OnOk, OnErr};
 ghost use Rattle.link_traits.specs.Counts.{Rose};
 ghost use Rattle.link_traits.specs.Sinks.{Took, TookPart};

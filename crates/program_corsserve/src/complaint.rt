@@ -1,3 +1,4 @@
+// What corsserve tells the complaints of each status.
 ghost use Rattle.program_shell.specs.Complaints.{IsComplained, IsTold};
 ghost use Rattle.program_corsserve.specs.Complaints.{complaint};
 

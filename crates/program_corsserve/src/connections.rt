@@ -1,3 +1,4 @@
+// The connections, served one after the other, and the line that each is told by.
 ghost use Rattle.std.specs.Prelude.{◌≡◌, IfOk, OnErr};
 ghost use Rattle.server_tables.specs.Serving.{peer_told};
 ghost use Rattle.program_corsserve.specs.Connections.{Serves, accepts_told};

@@ -1,3 +1,4 @@
+// corsserve's top call.
 ghost use Rattle.std.specs.Prelude.{◌≡◌, false, IfErr, IfOk};
 ghost use Rattle.server_tables.specs.Serving.{peer_told};
 ghost use Rattle.server_words.specs.Words.{are_texts, task_of};

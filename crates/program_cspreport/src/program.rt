@@ -1,3 +1,4 @@
+// cspreport's top call.
 ghost use Rattle.std.specs.Prelude.{◌≡◌, Err, IfErr, IfOk};
 ghost use Rattle.program_shell.specs.Inputs.{IsRead, IsUnread, Reads, Refuses};
 ghost use Rattle.program_shell.specs.Program.{IsPlayed};

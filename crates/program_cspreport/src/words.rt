@@ -1,3 +1,4 @@
+// The words that cspreport accepts.
 ghost use Rattle.std.specs.Prelude.{◌≡◌};
 ghost use Rattle.program_shell.specs.Words.{texts};
 ghost use Rattle.program_cspreport.specs.Words as spec;

@@ -1,3 +1,4 @@
+// fetchplay's top call.
 ghost use Rattle.std.specs.Prelude.{◌≡◌, ◌≤◌, IfErr, IfOk};
 ghost use Rattle.play_definitions.specs.Plays.{IsPlay};
 ghost use Rattle.play_seats.specs.Makers.{maker_of};

@@ -1,3 +1,4 @@
+// The words that fetchplay accepts, and what they ask for.
 ghost use Rattle.std.specs.Prelude.{◌≡◌, ◌≤◌, IfSome};
 ghost use Rattle.program_fetchplay.specs.Words as spec;
 ghost use Rattle.program_shell.specs.Words.{texts};

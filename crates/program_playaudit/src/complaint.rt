@@ -1,3 +1,4 @@
+// What playaudit tells the complaints of each status.
 ghost use Rattle.program_playaudit.specs.Statuses.{complaint};
 ghost use Rattle.program_shell.specs.Complaints.{IsComplained, IsTold};
 

@@ -1,3 +1,4 @@
+// A verdict told to the complaints, and the answer that follows from it.
 ghost use Rattle.std.specs.Prelude.{◌≡◌, Some};
 ghost use Rattle.program_shell.specs.Complaints as spec;
 ghost use Rattle.program_shell.specs.Complaints.{IsComplained};

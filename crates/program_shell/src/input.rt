@@ -1,3 +1,4 @@
+// An input read whole, or the verdict on one that was not.
 ghost use Rattle.std.specs.Prelude.{◌≡◌, ◌<◌, ◌^◌, IfErr, IfOk};
 ghost use Rattle.program_shell.specs.Inputs as spec;
 ghost use Rattle.program_shell.specs.Inputs.{IsGiven, IsStopped};

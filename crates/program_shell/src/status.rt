@@ -1,3 +1,4 @@
+// What a program came to, and the number that it ends with.
 ghost use Rattle.std.specs.Prelude.{◌≡◌};
 ghost use Rattle.program_shell.specs.Statuses as spec;
 

@@ -1,3 +1,4 @@
+// A law of reports: on which parts of a run they rest.
 ghost use Rattle.std.specs.Prelude.{List};
 ghost use Rattle.script_events.specs.declared.events.Event.{Event};
 ghost use Rattle.report_delivery.specs.Laws.{RestOnViolations};

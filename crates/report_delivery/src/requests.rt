@@ -1,3 +1,4 @@
+// The requests by which a document's violations are reported.
 ghost use Rattle.std.specs.Prelude.{◌≡◌, ◌<◌, length, slice_get, Some, IfOk};
 ghost use Rattle.std.specs.List.{All};
 ghost use Rattle.report_delivery.specs.Reports as spec;

@@ -1,3 +1,5 @@
+// Where the answers of rows are cut in pieces.
+
 /// How many bytes an answer has at most that is cut in two at each place.
 const SHORT: usize = 1_024;
 

@@ -1,3 +1,4 @@
+// What is read of an answer that comes in pieces, and how it is shown.
 use link_http1::{BodyReader, BodyStep, HeadReader, HeadStep};
 use rows_shell::{Failed, Held, Shown};
 use std::alloc::Global;

@@ -1,3 +1,4 @@
+// Why a program of worked cases stops.
 use std::alloc::{AllocError, AllocFailed};
 use std::io;
 use value_text::OutOfMemory;

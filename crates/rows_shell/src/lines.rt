@@ -1,3 +1,4 @@
+// The lines of the input, each answered by a line of the output.
 use crate::failed::Failed;
 use crate::shown::Shown;
 use std::alloc::Global;

@@ -1,3 +1,4 @@
+// Header lists, made of the texts of a row.
 use crate::failed::Failed;
 use crate::row::Row;
 use std::alloc::Global;

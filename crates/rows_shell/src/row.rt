@@ -1,3 +1,4 @@
+// A row as its texts.
 use crate::failed::Failed;
 use crate::shown::Shown;
 use std::alloc::Global;

@@ -1,3 +1,4 @@
+// URLs, origins and clients that a row writes.
 ghost use Rattle.std.specs.Prelude.{IfOk};
 ghost use Rattle.value_requests.specs.Requests.{IsClient};
 

@@ -1,3 +1,4 @@
+// Names in rows, and words of the form `NAME=VALUE`.
 use crate::failed::Failed;
 use crate::row::texts_between;
 use std::alloc::Global;

@@ -1,3 +1,4 @@
+// What a document's run shows, and how it ended.
 ghost use Rattle.std.specs.Prelude.{◌↔◌, IsTrue};
 ghost use Rattle.script_events.specs.Endings as spec;
 
