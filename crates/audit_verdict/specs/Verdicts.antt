@@ -1,5 +1,5 @@
--- What an audit of a printed play comes to: the first case that applies (this project's own; what a play is, play_isolation
--- defines, what its text is play_text, and which history a text holds audit_text).
+-- What an audit of a printed play comes to: the first case that applies (this project's own; what a play is,
+-- play_isolation defines, what its text is play_text, and which history a text holds audit_text).
 use Rattle.std.specs.Prelude.{◌≡◌, ℕ, ◌<◌, List, length, Option, Some, None, Ok, Err}
 use Rattle.std.specs.List.{slice_get}
 use Rattle.value_text.specs.Texts.{Text}

@@ -24,7 +24,8 @@ pub extern "C" fn fiorrudda_headers(alloc: Global, headers: &mut Handle) -> u32
 /// `OK`; `WRONG_HANDLE`; `NOT_A_HEADER`; `OUT_OF_MEMORY`. The list is as it was but for `OK`.
 #[unsafe(no_mangle)]
 pub extern "C" fn fiorrudda_append(headers: &mut Handle, name: &[u8], value: &[u8]) -> u32
-    ensures told { result ≢ OUT_OF_MEMORY → done result headers.new.held ≡ append_to name.now value.now headers.old.held }
+    ensures told { result ≢ OUT_OF_MEMORY
+        → done result headers.new.held ≡ append_to name.now value.now headers.old.held }
     ensures out_of_memory { result ≡ OUT_OF_MEMORY → headers.new.held ≡ headers.old.held }
 {
     let Some(list) = headers.headers() else {

@@ -66,7 +66,8 @@ pub extern "C" fn fiorrudda_referrer(
     room: &mut [u8],
     len: &mut usize,
 ) -> u32
-    ensures told { result ≢ OUT_OF_MEMORY → IsReferrer policy source.now target.now room.old room.new len.old len.new result }
+    ensures told { result ≢ OUT_OF_MEMORY
+        → IsReferrer policy source.now target.now room.old room.new len.old len.new result }
     ensures out_of_memory { result ≡ OUT_OF_MEMORY → (room.new ≡ room.old) × (len.new ≡ len.old) }
 {
     match policy_numbered(policy) {

@@ -76,7 +76,8 @@ impl Asked {
         name: &[u8],
         value: &[u8],
     ) -> Result<bool, OutOfMemory>
-        ensures ok { IfOk result (λ added. spec.header_added name.now value.now self.old ≡ spec.changed added self.new) }
+        ensures ok { IfOk result (λ added.
+            spec.header_added name.now value.now self.old ≡ spec.changed added self.new) }
         ensures err { OnErr result (self.new ≡ self.old) }
     {
         match self {

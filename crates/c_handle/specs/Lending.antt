@@ -30,22 +30,27 @@ abbrev pub LendsThing : MutBor Handle → Option (MutBor Thing) → Fml
 LendsThing from lent = LendsIf handle.the_row thing.the_row from lent (with_thing from.now) from.now
 
 abbrev pub LendsHeaders : MutBor Handle → Option (MutBor (List Header)) → Fml
-LendsHeaders from lent = LendsIf handle.the_row headers.the_row from lent (λ it. with_thing from.now (Headers it)) from.now
+LendsHeaders from lent = LendsIf handle.the_row headers.the_row from lent
+    (λ it. with_thing from.now (Headers it)) from.now
 
 abbrev pub LendsBook : MutBor Handle → Option (MutBor declared.Book) → Fml
 LendsBook from lent = LendsIf handle.the_row book.the_row from lent (λ it. with_thing from.now (Book it)) from.now
 
 abbrev pub LendsClient : MutBor Handle → Option (MutBor Setup) → Fml
-LendsClient from lent = LendsIf handle.the_row settings.the_row from lent (λ it. with_thing from.now (Client it)) from.now
+LendsClient from lent = LendsIf handle.the_row settings.the_row from lent
+    (λ it. with_thing from.now (Client it)) from.now
 
 abbrev pub LendsRequest : MutBor Handle → Option (MutBor declared_request.Asked) → Fml
-LendsRequest from lent = LendsIf handle.the_row asked.the_row from lent (λ it. with_thing from.now (Request it)) from.now
+LendsRequest from lent = LendsIf handle.the_row asked.the_row from lent
+    (λ it. with_thing from.now (Request it)) from.now
 
 abbrev pub LendsFetch : MutBor Handle → Option (MutBor declared_fetch.Session) → Fml
 LendsFetch from lent = LendsIf handle.the_row session.the_row from lent (λ it. with_thing from.now (Fetch it)) from.now
 
 abbrev pub LendsPolicies : MutBor Handle → Option (MutBor (List Policy)) → Fml
-LendsPolicies from lent = LendsIf handle.the_row compiled.the_row from lent (λ it. with_thing from.now (Policies it)) from.now
+LendsPolicies from lent = LendsIf handle.the_row compiled.the_row from lent
+    (λ it. with_thing from.now (Policies it)) from.now
 
 abbrev pub LendsViolations : MutBor Handle → Option (MutBor (List Violation)) → Fml
-LendsViolations from lent = LendsIf handle.the_row found.the_row from lent (λ it. with_thing from.now (Violations it)) from.now
+LendsViolations from lent = LendsIf handle.the_row found.the_row from lent
+    (λ it. with_thing from.now (Violations it)) from.now

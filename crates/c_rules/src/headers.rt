@@ -12,7 +12,8 @@ use value_text::{Bytes, is_token, is_value};
 /// where the name is no token or the value no header value. A refused one leaves the list as it was.
 pub fn append_header(list: &mut HeaderList, name: &[u8], value: &[u8]) -> Result<(), Refusal>
     ensures ok { OnOk result (spec.appending name.now value.now list.old ≡ Ok list.new) }
-    ensures refused { IfErr result (λ refusal. refusal ≢ Refusal.OutOfMemory → spec.appending name.now value.now list.old ≡ Err refusal) }
+    ensures refused { IfErr result (λ refusal. refusal ≢ Refusal.OutOfMemory
+        → spec.appending name.now value.now list.old ≡ Err refusal) }
     ensures kept { OnErr result (list.new ≡ list.old) }
 {
     if !is_token(name) || !is_value(value) {

@@ -15,9 +15,10 @@ use Rattle.policy_safelist.specs.declared.guard.Guard.{Guard}
 use Rattle.policy_safelist.specs.declared.guard.Guard.TheVariants as guard
 use Rattle.value_requests.specs.declared.client.Client.{Client}
 use Rattle.value_requests.specs.declared.fault.TypeFault.{TypeFault}
-use Rattle.value_requests.specs.declared.fault.TypeFault.TheVariants.{BadUrl, UrlCredentials, BadMethod, ForbiddenMethod}
-use Rattle.value_requests.specs.declared.fault.TypeFault.TheVariants.{BodyWithGet, NoCorsMethod, BadHeader, NavigateMode}
-use Rattle.value_requests.specs.declared.fault.TypeFault.TheVariants.{TooLong}
+use Rattle.value_requests.specs.declared.fault.TypeFault.TheVariants.{BadUrl, UrlCredentials, BadMethod}
+use Rattle.value_requests.specs.declared.fault.TypeFault.TheVariants.{ForbiddenMethod}
+use Rattle.value_requests.specs.declared.fault.TypeFault.TheVariants.{BodyWithGet, NoCorsMethod, BadHeader}
+use Rattle.value_requests.specs.declared.fault.TypeFault.TheVariants.{NavigateMode, TooLong}
 use Rattle.value_requests.specs.declared.init.Init.{Init}
 use Rattle.value_requests.specs.declared.init.Pair.{Pair}
 use Rattle.value_requests.specs.declared.mode.Mode.{Mode}

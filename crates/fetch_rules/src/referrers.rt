@@ -2,8 +2,8 @@
 ghost use Rattle.std.specs.Prelude.{◌≡◌, IfOk, IsTrue};
 ghost use Rattle.fetch_rules.specs.Policies.{with_policy as policied};
 ghost use Rattle.fetch_rules.specs.Referrers as spec;
-ghost use Rattle.value_requests.specs.Requests.{IsAtHttp, IsClient, IsRequest, is_determined, is_http_referrer, is_http_url};
-ghost use Rattle.value_requests.specs.Requests.{is_policy};
+ghost use Rattle.value_requests.specs.Requests.{IsAtHttp, IsClient, IsRequest, is_determined, is_http_referrer};
+ghost use Rattle.value_requests.specs.Requests.{is_http_url, is_policy};
 
 use crate::policies::set_policy;
 use policy_referrer::determine;

@@ -1,6 +1,7 @@
 -- What a document's run comes to in the document's world.
 use Rattle.std.specs.Prelude.{[], ℕ, ◌++◌, ◌≡◌, ◌≤◌, List, Some, length}
-use Rattle.play_definitions.specs.Words.{Answering, Ending, Event, Input, IsIdle, Memory, Play, PlayTrace, over, run_play}
+use Rattle.play_definitions.specs.Words.{Answering, Ending, Event, Input, IsIdle, Memory, Play, PlayTrace, over}
+use Rattle.play_definitions.specs.Words.{run_play}
 use Rattle.play_definitions.specs.Worlds.{Outside, Settles, World, WorldAnswers, WorldRefused, outside_of}
 
 -- with these items of a tape a run shows these events in the world of a document, and goes on

@@ -3,8 +3,8 @@
 use Rattle.std.specs.Prelude.{ℕ, ◌+◌, ◌≡◌, ◌≢◌, ◌≤◌, ◌⊎◌, List, length, map}
 use Rattle.play_definitions.specs.declared.seating.Seating.{Seating}
 use Rattle.play_definitions.specs.Playing.{RunCameTo}
-use Rattle.play_definitions.specs.Words.{Account, All, Answering, Book, Document, EachDocument, LinkTold, Memory, Scenario}
-use Rattle.play_definitions.specs.Words.{Transcript, document_client, document_run, range_with_len}
+use Rattle.play_definitions.specs.Words.{Account, All, Answering, Book, Document, EachDocument, LinkTold, Memory}
+use Rattle.play_definitions.specs.Words.{Scenario, Transcript, document_client, document_run, range_with_len}
 use Rattle.play_definitions.specs.Worlds.{Outside, most_calls, outside}
 
 -- What is seen of a seat: the document that its pass is for, the book that its share was opened with, and what is

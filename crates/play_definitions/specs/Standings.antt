@@ -2,8 +2,8 @@
 use Rattle.std.specs.Prelude.{ℕ, ◌*◌, ◌+◌, ◌≡◌, ◌≤◌}
 use Rattle.play_definitions.specs.declared.lent.Lent.{Lent}
 use Rattle.play_definitions.specs.declared.player.Player.{Player}
-use Rattle.play_definitions.specs.Words.{Account, IsAtEnd, IsClient, LinkTold, Progress, Setting, most_asks, most_fetches}
-use Rattle.play_definitions.specs.Words.{setting}
+use Rattle.play_definitions.specs.Words.{Account, IsAtEnd, IsClient, LinkTold, Progress, Setting, most_asks}
+use Rattle.play_definitions.specs.Words.{most_fetches, setting}
 use Rattle.play_definitions.specs.Worlds.{World, most_calls, world_of}
 
 -- What a run goes by: what its fetches have in common, how many bytes a body may have, and the document's number.

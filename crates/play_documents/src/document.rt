@@ -4,8 +4,8 @@ ghost use Rattle.play_definitions.specs.Playing.{RunCameTo};
 ghost use Rattle.play_script.specs.Parts as spec;
 ghost use Rattle.play_definitions.specs.Standings.{lent_setting};
 ghost use Rattle.play_documents.specs.Words.{AreValid, Document as OneDocument, IsAtEnd, IsClient, IsIdle, IsValid};
-ghost use Rattle.play_documents.specs.Words.{IsValidDocument, Memory, beginning, document_client, document_run, exchange_of};
-ghost use Rattle.play_documents.specs.Words.{finished, over_link, script_run};
+ghost use Rattle.play_documents.specs.Words.{IsValidDocument, Memory, beginning, document_client, document_run};
+ghost use Rattle.play_documents.specs.Words.{exchange_of, finished, over_link, script_run};
 ghost use Rattle.play_definitions.specs.Worlds.{KeepsPass, most_calls, outside};
 
 use book_calls::Share;

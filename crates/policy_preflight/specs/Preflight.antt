@@ -8,7 +8,8 @@ use Rattle.value_text.specs.Ascii.{comma}
 use Rattle.value_origins.specs.Origins.{origin_of}
 use Rattle.value_requests.specs.declared.hop.Hop.{Hop}
 use Rattle.value_requests.specs.declared.request.Request.{Request}
-use Rattle.value_requests.specs.Lines.{Line, accept_encoding, all_appended_where, connection, line, line_where, user_agent}
+use Rattle.value_requests.specs.Lines.{Line, accept_encoding, all_appended_where, connection, line, line_where}
+use Rattle.value_requests.specs.Lines.{user_agent}
 use Rattle.policy_checks.specs.OriginHeader.{referrer_value}
 use Rattle.value_requests.specs.Requests.{current_url}
 use Rattle.policy_checks.specs.RequestOrigins.{serialized_request_origin}

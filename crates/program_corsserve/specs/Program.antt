@@ -1,6 +1,6 @@
 -- What the program answers to its words: its verdict by the words, the bytes of the input and the connections, what it
--- has written then, and what it tells the complaints. What every program promises of its input, program_shell's definitions
--- say.
+-- has written then, and what it tells the complaints. What every program promises of its input, program_shell's
+-- definitions say.
 use Rattle.std.specs.Prelude.{◌≡◌, ◌≢◌, false, ℕ, ◌⊎◌, List, Option, Some, None}
 use Rattle.value_text.specs.Texts.{Text}
 use Rattle.link_traits.specs.Accepts.{Opened}
@@ -38,7 +38,8 @@ module _ {End : Type 0} (told : End → PeerTold) where
     pub faults_are : new.faults ≡ old.faults
 
   -- The address could not be listened at.
-  pub record CannotListen (old new : AcceptsTold End) (output output' : SinkTold) (verdict : Status BadLine) : Type 0 where
+  pub record CannotListen (old new : AcceptsTold End) (output output' : SinkTold)
+      (verdict : Status BadLine) : Type 0 where
     pub verdict_is : verdict ≡ status.OwnFault
     pub cause : Rose old.faults new.faults
     pub opened_is : new.opened ≡ old.opened

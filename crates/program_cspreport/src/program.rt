@@ -52,7 +52,8 @@ pub fn cspreport<R: Threads + Wait + Sync, S: Source, K: Sink, E: Sink>(
     output: &mut K,
     complaints: &mut E,
 ) -> ReportStatus
-    ensures { Answers (texts words.now) (S.gives input.old) (S.gives input.new) (K.takes output.old) (K.takes output.new)
+    ensures { Answers (texts words.now) (S.gives input.old) (S.gives input.new)
+        (K.takes output.old) (K.takes output.new)
         (E.takes complaints.old) (E.takes complaints.new) result }
 {
     let verdict = verdict(rt, alloc, words, input, output);
@@ -128,8 +129,8 @@ fn play<R: Threads + Wait + Sync, S: Source, K: Sink>(
     input: &mut S,
     output: &mut K,
 ) -> ReportStatus
-    ensures { IsPlayed most_input reported_scenario IsReportText (S.gives input.old) (S.gives input.new) (K.takes output.old)
-        (K.takes output.new) result }
+    ensures { IsPlayed most_input reported_scenario IsReportText (S.gives input.old) (S.gives input.new)
+        (K.takes output.old) (K.takes output.new) result }
 {
     let scenario = match scenario_in(alloc, input) {
         Err(verdict) => return verdict,

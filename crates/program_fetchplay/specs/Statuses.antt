@@ -8,8 +8,8 @@ use Rattle.program_shell.specs.declared.status.Status.{Status}
 use Rattle.program_shell.specs.declared.status.Status.TheVariants as status
 use Rattle.script_reading.specs.declared.place.Place.{Place}
 
--- the line of a verdict: what is wrong, and the place of a scenario that is refused; none for Ok, and the program has no
--- fault of its own
+-- the line of a verdict: what is wrong, and the place of a scenario that is refused; none for Ok, and the program has
+-- no fault of its own
 abbrev pub complaint : Status Place → Option Text
 complaint status.Ok = None
 complaint status.Usage = Some (line (codes "fetchplay: usage: fetchplay play | net | gen N") [])

@@ -1,6 +1,6 @@
 -- What the program answers to its words: its status by the words and the bytes of the input, what it has written then,
--- and what it tells the complaints. What a verdict is, audit_verdict defines, and what every program promises of its input,
--- program_shell.
+-- and what it tells the complaints. What a verdict is, audit_verdict defines, and what every program promises of its
+-- input, program_shell.
 use Rattle.std.specs.Prelude.{◌≡◌, ◌≢◌, ℕ, ◌⊎◌, List, [], ◌∷◌}
 use Rattle.value_text.specs.Texts.{Text}
 use Rattle.link_traits.specs.Counts.{Rose}

@@ -1,4 +1,5 @@
--- The statuses: the line that each verdict writes to the output, and the line that each status writes to the complaints.
+-- The statuses: the line that each verdict writes to the output, and the line that each status writes to the
+-- complaints.
 use Rattle.std.specs.Prelude.{ℕ, List, [], ◌++◌, codes, decimal, Option, Some, None}
 use Rattle.audit_verdict.specs.declared.verdict.Verdict.{Verdict}
 use Rattle.audit_verdict.specs.declared.verdict.Verdict.TheVariants as verdict

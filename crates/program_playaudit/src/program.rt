@@ -18,8 +18,8 @@ use value_text::OutOfMemory;
 /// The longest input that is read, in bytes.
 const MOST_INPUT: usize = 67_108_864;
 
-/// What the program came to. A text that is no play is refused by its verdict. The program's own fault is that the input
-/// is not framed.
+/// What the program came to. A text that is no play is refused by its verdict. The program's own fault is that the
+/// input is not framed.
 pub type AuditStatus = Status<Verdict>;
 
 /// The program, from its words to its status. It takes no words. The input is read whole: the decimal length of a

@@ -28,8 +28,8 @@ IsExcusedRead input input' output output' complaints complaints' answer =
 
 -- ---- an input
 
--- By how many bytes an input has at most, by what bytes are read as, by which verdict refuses them, by what is as it was
--- where nothing was done, and by what comes of the work on what was read:
+-- By how many bytes an input has at most, by what bytes are read as, by which verdict refuses them, by what is as it
+-- was where nothing was done, and by what comes of the work on what was read:
 module _ {A R : Type 0} (most : ℕ) (Reads : Text → A → Type 0) (Refuses : Text → Status R → Type 0)
     (Untouched : Type 0) (Works : A → Status R → Type 0) where
   -- the bytes of a whole input are refused by the verdict, and nothing was done

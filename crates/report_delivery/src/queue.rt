@@ -1,6 +1,7 @@
 // The reports of a document, one after another.
 ghost use Rattle.std.specs.Prelude.{◌≡◌, ◌<◌, ◌∷◌, [], length, IfOk, IfSome};
-ghost use Rattle.report_delivery.specs.Private.Queues.{IsNextEndpoint, IsNextViolation, IsTaken, begun_left, reports_left};
+ghost use Rattle.report_delivery.specs.Private.Queues.{IsNextEndpoint, IsNextViolation, IsTaken, begun_left};
+ghost use Rattle.report_delivery.specs.Private.Queues.{reports_left};
 ghost use Rattle.report_delivery.specs.Reports as spec;
 ghost use Rattle.value_requests.specs.Requests.{IsRequest};
 

@@ -2,7 +2,8 @@
 ghost use Rattle.std.specs.Prelude.{◌≡◌, ◌≤◌, [], length, true, false, ◌||◌, IfOk, IfErr, OnOk, OnErr};
 ghost use Rattle.std.specs.List.{list_any};
 ghost use Rattle.link_http1.specs.Blocks as spec;
-ghost use Rattle.server_tables.specs.Private.Coming.{HasBlock, HasCome, HasEnded, HasFailed, HasHeard, IsSearched, Stopped};
+ghost use Rattle.server_tables.specs.Private.Coming.{HasBlock, HasCome, HasEnded, HasFailed, HasHeard, IsSearched};
+ghost use Rattle.server_tables.specs.Private.Coming.{Stopped};
 ghost use Rattle.server_tables.specs.Serving.{most_read, peer_told};
 
 use crate::serving::Served;

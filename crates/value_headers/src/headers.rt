@@ -3,8 +3,8 @@ ghost use Rattle.std.specs.Prelude.{ℕ, List, [], length, take, vec_len, vec_ca
 ghost use Rattle.std.specs.Prelude.{◌≤◌, ◌≡◌, ◌≢◌, ◌↔◌, ◌<◌, ◌++◌};
 ghost use Rattle.std.specs.Prelude.{IfOk, OnOk, OnErr, MatchOption, Some, slice_get, option_map, codes, if◌then◌else◌};
 ghost use Rattle.std.specs.Prelude.{Bool, filter, not};
-ghost use Rattle.value_headers.specs.Headers.{all_appended, appended, combined, contains, has_value, is_named, spelling};
-ghost use Rattle.value_headers.specs.Headers.{with_only, without};
+ghost use Rattle.value_headers.specs.Headers.{all_appended, appended, combined, contains, has_value, is_named};
+ghost use Rattle.value_headers.specs.Headers.{spelling, with_only, without};
 ghost use Rattle.value_headers.specs.Private.Joining.{behind_value};
 ghost use Rattle.value_headers.specs.Private.Places.{first_of};
 ghost use Rattle.value_headers.specs.Spelling.{HaveOneSpelling};
