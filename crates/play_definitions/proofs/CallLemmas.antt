@@ -1,6 +1,7 @@
 -- What a run adds to its document's entries.
 use Rattle.script_events.specs.declared.events.Event.TheVariants as event
 use Rattle.std.proofs.lemmas.List.{length-append}
+use Rattle.value_lemmas.proofs.Lists.{AllByRecursion-append}
 use Rattle.book_calls.specs.declared.entry.Entry.{Entry}
 use Rattle.script_runs.specs.Traces.{stop}
 use Rattle.std.proofs.Common.{ap, append_assoc, arith, refl, sym, ◌∙◌}
@@ -22,11 +23,6 @@ pub record Calls {State : Type 0} (document : ℕ) (a b : World State) : Type 0 
   pub own : b.own ≡ a.own ++ more
   pub named : AllByRecursion (λ (e : Entry). e.document ≡ document) more
   pub fell : a.left ≡ b.left + length more
-
-all-append : (P : Entry → Type 0) (a b : List Entry) → AllByRecursion P a → AllByRecursion P b
-    → AllByRecursion P (a ++ b)
-all-append P [] b x y = y
-all-append P (e ∷ es) b x y = (x.0, all-append P es b x.1 y)
 
 module _ {State : Type 0} (by : Answering State) (limit document : ℕ) where
   calls-alike : {a b : World State} → b.own ≡ a.own → b.left ≡ a.left → Calls document a b
@@ -65,7 +61,7 @@ module _ {State : Type 0} (by : Answering State) (limit document : ℕ) where
   calls-then {a = a} x y = record {
     more = x.more ++ y.more;
     own = y.own ∙ ap (λ (l : List Entry). l ++ y.more) x.own ∙ append_assoc a.own x.more y.more;
-    named = all-append (λ (e : Entry). e.document ≡ document) x.more y.more x.named y.named;
+    named = AllByRecursion-append (λ (e : Entry). e.document ≡ document) x.more y.more x.named y.named;
     fell = omega (arith, x.fell, y.fell, length-append x.more y.more);
   }
 

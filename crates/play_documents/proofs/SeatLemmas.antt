@@ -1,6 +1,7 @@
 -- Seats in rows: each row is ready for its document, and what was played in the rows was played on the seats.
 use Rattle.std.proofs.lemmas.List.Elements.{All-map}
 use Rattle.std.proofs.lemmas.List.FromFn.{length-range_with_len, get_or-range_with_len}
+use Rattle.std.proofs.lemmas.Simd.{map-map}
 use Rattle.std.proofs.Math.ListN.{drop_of_length-le}
 use Rattle.script_runs.proofs.DocumentLemmas.{each-numbered}
 use Rattle.script_scenarios.specs.declared.scenario.Scenario.{Scenario}
@@ -102,20 +103,16 @@ module _ {L P State : Type 0} (belongs : P → Type 0) (seen : Seating L P → S
   belong-back olds news same each = All-map (λ (s : Seating L P). belongs s.pass) (λ (r : Row L P). r.seating) news
       (λ i d within. (each i d (omega (arith, same))).belongs_to)
 
-map-map : {X Y Z : Type 0} (f : X → Y) (g : Y → Z) (xs : List X) → map g (map f xs) ≡ map (λ x. g (f x)) xs
-map-map f g [] = refl
-map-map {Z = Z} f g (x ∷ xs) = ap (λ (l : List Z). g (f x) ∷ l) (map-map f g xs)
-
 -- before and after a play the passes are for the documents in their order
 pub documents-before : {L P State : Type 0} (seen : Seating L P → Seat State) (scenario : Scenario)
     (seats : List (Seating L P)) → AreSeated scenario.documents (map seen seats)
     → map (λ (s : Seating L P). (seen s).document) seats ≡ range_with_len 0 (length scenario.documents)
-documents-before seen scenario seats seated = sym (map-map seen (λ (s : Seat _). s.document) seats) ∙ seated.each
+documents-before seen scenario seats seated = sym (map-map (λ (s : Seat _). s.document) seen seats) ∙ seated.each
 
 pub documents-after : {L P State : Type 0} (seen : Seating L P → Seat State) {by : Answering State}
     {scenario : Scenario} {base : ℕ} {olds : List (Seat State)} (after : List (Seating L P))
     {transcripts : List Transcript}
     → EachDocument (DocumentCameTo by scenario base) 0 scenario.documents olds (map seen after) transcripts
     → map (λ (s : Seating L P). (seen s).document) after ≡ range_with_len 0 (length scenario.documents)
-documents-after seen after played = sym (map-map seen (λ (s : Seat _). s.document) after)
+documents-after seen after played = sym (map-map (λ (s : Seat _). s.document) seen after)
     ∙ each-numbered (λ (s : Seat _). s.document) (λ number document old new transcript is. is.document_is) played

@@ -1,10 +1,9 @@
 -- Each call of a document's run is one that a document of its key makes.
-use Rattle.std.proofs.Common.{◌≡◌, ℕ, arith, Bool, true, false, cond, List, [], ◌∷◌, ◌++◌, Option, Some, None, refl}
+use Rattle.std.proofs.Common.{◌≡◌, ℕ, arith, Bool, true, false, cond, List, [], ◌∷◌, Option, Some, None, refl}
 use Rattle.std.proofs.Common.{subst, sym}
-use Rattle.std.specs.Prelude.{◌+◌, ◌*◌, ◌^◌, ◌<◌, ◌≤◌, IfSome, if◌then◌else◌, nat_le, option_and_then, option_map}
+use Rattle.std.specs.Prelude.{◌+◌, ◌*◌, ◌^◌, ◌<◌, ◌≤◌, IfSome, option_and_then, option_map}
 use Rattle.std.specs.List.{AllByRecursion}
-use Rattle.std.specs.Str.{bytes_eq}
-use Rattle.std.specs.Cmp.Lexicographic.{bytes_decides}
+use Rattle.value_lemmas.proofs.Bytes.{bytes_eq-self}
 use Rattle.book_hosts.specs.declared.sts.Sts.{Sts}
 use Rattle.value_requests.specs.declared.client.Cookie.{Cookie}
 use Rattle.value_requests.specs.declared.request.Request.{Request}
@@ -24,7 +23,6 @@ use Rattle.script_commands.specs.Scripts.{Step, Steps}
 use Rattle.script_commands.specs.Scripts as script
 use Rattle.script_commands.specs.Valid.{AreValid, IsValidStep}
 use Rattle.script_scenarios.specs.declared.document.Document.{Document}
-use Rattle.script_events.specs.declared.events.Ending.TheVariants.{Commands}
 use Rattle.script_events.specs.declared.events.Event.{Event}
 use Rattle.fetch_machine.specs.Fetch.{fetch}
 use Rattle.fetch_machine.specs.Then.{Context}
@@ -35,8 +33,9 @@ use Rattle.fetch_laws.proofs.OwnLemmas.{fetch-within}
 use Rattle.fetch_laws.proofs.RuleLemmas.{Keeps, within-fetch}
 use Rattle.script_runs.specs.Play.{Play, events_of, run_play}
 use Rattle.script_runs.specs.Runs.{Next, Progress, after_events, at_time, document_client, document_run, embed}
-use Rattle.script_runs.specs.Runs.{outcome_event, own_limit, setting_of, showing}
+use Rattle.script_runs.specs.Runs.{outcome_event, setting_of, showing}
 use Rattle.script_runs.proofs.ScriptLemmas.{AllWaits, Anywhere, Bounds, WaitsOfStep, good-document, good-from}
+use Rattle.script_runs.proofs.ScriptLemmas.{limit_before-none}
 use Rattle.play_isolation.specs.Apart.{plan_of}
 use Rattle.play_isolation.specs.Calls.{calls_in}
 use Rattle.play_isolation.proofs.AloneLemmas.{calls-shown}
@@ -58,9 +57,6 @@ IsOfKey key op = is_of_key key op ≡ true
 
 -- ---- a fetch
 
-same-key : (key : List ℕ) → bytes_eq key key ≡ true
-same-key key = (bytes_decides key key).1 refl
-
 key-match : (key : List ℕ) (now : ℕ) (host : Option (List ℕ))
     → IfSome (option_map (λ name. Match name now) host) (λ op. is_of_key key op ≡ true)
 key-match key now None = tt
@@ -76,10 +72,10 @@ key-note key now (Some name) (Some sts) = refl
 key-kept : (context : Context) → Keeps context (AsksBy (IsOfKey context.client.key))
 key-kept context = record {
   known = λ request. key-match context.client.key context.now (host_to_match request);
-  covers = λ request. same-key context.client.key;
+  covers = λ request. bytes_eq-self context.client.key;
   note = λ request head. key-note context.client.key context.now (host_to_note request) (sts_of head);
-  learn = λ request age methods names small. same-key context.client.key;
-  clear = λ request. same-key context.client.key;
+  learn = λ request age methods names small. bytes_eq-self context.client.key;
+  clear = λ request. bytes_eq-self context.client.key;
   send = λ request hop. tt;
   head = λ request. tt;
   body = λ request. tt;
@@ -185,11 +181,6 @@ record InTimeToWait (base : ℕ) (progress : Progress) : Type 0 where
 abbrev IsShort : ℕ → Type 0
 IsShort seconds = seconds < 2 ^ 32
 
-limit-none : (one : Step) (progress : Progress) (most : Bool) → nat_le 16384 progress.commands ≡ most
-    → (if most then Some Commands else own_limit one progress) ≡ None → progress.commands < 16384
-limit-none one progress true is none = absurd (cc)
-limit-none one progress false is none = grind (arith, is)
-
 time-bounds : (base : ℕ) → Bounds (InTime base) (InTimeToWait base) IsShort
 time-bounds base = record {
   showing = λ events progress stands. record { few = stands.few; early = stands.early };
@@ -197,8 +188,7 @@ time-bounds base = record {
   rests = λ progress begun. record { few = begun.few; early = omega (arith, begun.early) };
   waits = λ seconds progress short begun. record { few = begun.few; early = omega (arith, begun.early, short) };
   begins = λ one progress is stands.
-      let few : progress.commands < 16384 =
-      limit-none one progress (nat_le 16384 progress.commands) refl is in
+      let few : progress.commands < 16384 = limit_before-none one progress is in
       record { few = omega (arith, few); early = omega (arith, stands.early) };
 }
 

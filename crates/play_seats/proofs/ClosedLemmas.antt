@@ -7,6 +7,7 @@ use Rattle.std.specs.List.{All, AllByRecursion, range_with_len, count_by}
 use Rattle.std.proofs.lemmas.Bool.Decides.{eqb_tells}
 use Rattle.std.proofs.lemmas.List.Elements.{All-nil, All-cons, All-head, All-tail, All-map, recursion_from_All}
 use Rattle.std.proofs.lemmas.List.Sums.{sum_by-cons}
+use Rattle.std.proofs.lemmas.Simd.{map-map}
 use Rattle.atomic_table.specs.Seated.{TableId}
 use lib.ListN.{get_elem?}
 use mathlib.Core.Option.{some}
@@ -34,7 +35,7 @@ use Rattle.play_definitions.specs.Plays.{HasTurnsFrom, Way, opening_book}
 use Rattle.play_seats.specs.Links.{way_of}
 use Rattle.play_seats.specs.Passes.{ArePasses, IsNew}
 use Rattle.play_seats.specs.Seated.{IsFresh, links_in, passes_in, seat_seen}
-use Rattle.play_seats.proofs.ListLemmas.{map-map, unmap}
+use Rattle.play_seats.proofs.ListLemmas.{unmap}
 use Rattle.play_seats.proofs.PassLemmas.{times-range}
 
 -- ---- one document
@@ -215,8 +216,8 @@ module _ {L State : Type 0} (told : L → LinkTold State) (scenario : Scenario) 
   pub ways-of : (seats : List (Seating L TurnPass))
       → map seat_way (map (seat_seen told) seats) ≡ map (way_of told) (links_in seats)
   ways-of seats =
-      map-map (seat_seen told) seat_way seats
-      ∙ sym (map-map (λ (s : Seating L TurnPass). s.link) (way_of told) seats)
+      map-map seat_way (seat_seen told) seats
+      ∙ sym (map-map (way_of told) (λ (s : Seating L TurnPass). s.link) seats)
 
   -- no call was made on the seats at first
   pub fresh-seats : All IsFresh (map (seat_seen told) made)

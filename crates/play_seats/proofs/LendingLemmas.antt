@@ -15,13 +15,6 @@ lent-is back back' out out' b o = rw (b, o) refl
 
 -- ---- out
 
--- none more
-pub out-none : {L : Type 0} (lent : Option (Lendings L)) → lent ≡ option_map (out_more 0) lent
-out-none None = refl
-out-none {L} (Some lent) =
-    ap (λ (l : Lendings L). let o : Option (Lendings L) = Some l in o)
-    (lent-is lent.back lent.back lent.out (lent.out + 0) refl (omega arith))
-
 -- one more
 pub out-one : {L : Type 0} (first mid last : Option (Lendings L)) (count more : ℕ)
     → mid ≡ option_map (out_more count) first
@@ -35,12 +28,6 @@ out-one {L} first mid last count more is next one =
     step (Some lent) =
         ap (λ (l : Lendings L). let o : Option (Lendings L) = Some l in o)
         (lent-is lent.back lent.back (lent.out + count + 1) (lent.out + (count + 1)) refl (omega arith))
-
--- as many by another count
-pub out-many : {L : Type 0} (first last : Option (Lendings L)) (count more : ℕ)
-    → last ≡ option_map (out_more count) first
-    → more ≡ count → last ≡ option_map (out_more more) first
-out-many {L} first last count more is same = is ∙ ap (λ (n : ℕ). option_map (out_more n) first) (sym same)
 
 -- ---- back
 

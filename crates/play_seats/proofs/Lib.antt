@@ -1,4 +1,3 @@
-pub mod BookLemmas
 pub mod ClosedLemmas
 pub mod Computed
 pub mod LendingLemmas

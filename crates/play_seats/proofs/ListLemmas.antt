@@ -1,5 +1,5 @@
 -- Lists of what is made of other lists, and what is known of an answer.
-use Rattle.std.proofs.Common.{◌≡◌, List, [], ◌∷◌, Result, Ok, Err, map, refl, ap}
+use Rattle.std.proofs.Common.{List, [], ◌∷◌, Result, Ok, Err, map}
 use Rattle.std.specs.Prelude.{IfOk}
 use Rattle.std.specs.List.{All}
 use Rattle.std.proofs.lemmas.List.Elements.{All-nil, All-cons, All-head, All-tail}
@@ -8,10 +8,6 @@ pub unmap : {X Y : Type 0} (P : X → Type 0) (f : Y → X) (ys : List Y) → Al
 unmap P f [] a = All-nil (λ y. P (f y))
 unmap P f (y ∷ ys) a = All-cons (λ y. P (f y)) y ys (All-head P (f y) (map f ys) a)
     (unmap P f ys (All-tail P (f y) (map f ys) a))
-
-pub map-map : {X Y Z : Type 0} (f : X → Y) (g : Y → Z) (xs : List X) → map g (map f xs) ≡ map (λ x. g (f x)) xs
-map-map f g [] = refl
-map-map {Z = Z} f g (x ∷ xs) = ap (λ (l : List Z). g (f x) ∷ l) (map-map f g xs)
 
 -- what follows of each answer
 pub if-ok-map : {T E : Type 0} (P Q : T → Type 0) (result : Result T E) → ((x : T) → P x → Q x) → IfOk result P

@@ -4,6 +4,7 @@ use Rattle.std.specs.List.{All, range_with_len}
 use Rattle.std.proofs.lemmas.List.{length-map}
 use Rattle.std.proofs.lemmas.List.Elements.{All-map}
 use Rattle.std.proofs.lemmas.List.FromFn.{length-range_with_len}
+use Rattle.std.proofs.lemmas.Simd.{map-map}
 use Rattle.atomic_table.specs.Seated.{TableId}
 use Rattle.play_definitions.specs.Worlds.{most_calls}
 use Rattle.play_definitions.specs.Seats.{AreSeated, Seat}
@@ -13,7 +14,7 @@ use Rattle.book_turns.specs.declared.pass.TurnPass.{TurnPass}
 use Rattle.play_seats.specs.Passes.{IsNew}
 use Rattle.play_definitions.specs.Plays.{opening_book}
 use Rattle.play_seats.specs.Seated.{links_in, passes_in, seat_seen}
-use Rattle.play_seats.proofs.ListLemmas.{map-map, unmap}
+use Rattle.play_seats.proofs.ListLemmas.{unmap}
 use Rattle.link_traits.specs.Links.{LinkTold}
 
 -- as many items as numbers
@@ -35,7 +36,7 @@ pub documents-in : {L : Type 0} (seats : List (Seating L TurnPass)) (count : ℕ
     → map (λ (s : Seating L TurnPass). s.pass.document) seats ≡ range_with_len 0 count
     → map (λ (p : TurnPass). p.document) (passes_in seats) ≡ range_with_len 0 count
 documents-in {L} seats count is =
-    map-map (λ (s : Seating L TurnPass). s.pass) (λ (p : TurnPass). p.document) seats ∙ is
+    map-map (λ (p : TurnPass). p.document) (λ (s : Seating L TurnPass). s.pass) seats ∙ is
 
 -- as many links as seats at first
 pub many-links : {L : Type 0} (made back : List (Seating L TurnPass)) (count : ℕ)
@@ -54,8 +55,8 @@ module _ {L State : Type 0} (told : L → LinkTold State) (id : TableId) (scenar
       → map (λ (p : TurnPass). p.document) passes ≡ range_with_len 0 (length scenario.documents)
       → passes_in seats ≡ passes → AreSeated scenario.documents (map (seat_seen told) seats)
   ready-seats new documents are = record {
-    each = map-map (seat_seen told) (λ (s : Seat State). s.document) seats
-        ∙ sym (map-map (λ (s : Seating L TurnPass). s.pass) (λ (p : TurnPass). p.document) seats)
+    each = map-map (λ (s : Seat State). s.document) (seat_seen told) seats
+        ∙ sym (map-map (λ (p : TurnPass). p.document) (λ (s : Seating L TurnPass). s.pass) seats)
         ∙ ap (map (λ (p : TurnPass). p.document)) are ∙ documents;
     calls = All-map (λ (s : Seat State). most_calls ≤ s.outside.left) (seat_seen told) seats
         (λ k d lt. let n = unmap (IsNew id (opening_book scenario)) (λ (s : Seating L TurnPass). s.pass) seats

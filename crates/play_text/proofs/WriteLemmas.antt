@@ -1,19 +1,13 @@
 -- What several texts that are written one after the other come to.
-use Rattle.std.proofs.Common.{◌≡◌, ℕ, List, [], ◌++◌, Option, Some, None, Result, Ok, Err, arith, length, ap, sym}
+use Rattle.std.proofs.Common.{◌≡◌, ℕ, List, [], ◌++◌, Result, Ok, Err, arith, length}
 use Rattle.std.proofs.Math.Seq.{take-length}
-use Rattle.std.proofs.lemmas.List.{append-nil}
 use Rattle.std.specs.Result.{IsErrAnd}
 use Rattle.link_traits.specs.Counts.{Rose}
-use Rattle.link_traits.specs.Sinks.{SinkTold, Took}
-use Rattle.link_traits.proofs.SinkLemmas.{part-before, ok-after, err-after}
+use Rattle.link_traits.specs.Sinks.{SinkTold}
+use Rattle.link_traits.proofs.SinkLemmas.{part-before, ok-after, err-after, took-nothing}
 use Rattle.play_text.specs.declared.failure.Failure.{Failure}
 use Rattle.play_text.specs.declared.failure.Failure.TheVariants.{OutOfMemory}
 use Rattle.play_text.specs.Writes.{Writes}
-
--- the empty text was taken
-pub took-nothing : (taken : Option (List ℕ)) → Took taken taken []
-took-nothing None = tt
-took-nothing (Some text) = ap (λ (l : List ℕ). let r : Option (List ℕ) = Some l in r) (sym (append-nil text))
 
 -- it is written without a call
 pub writes-nothing : {A : Type 0} {sink : SinkTold} {a : A} → Writes sink sink [] (Ok a)

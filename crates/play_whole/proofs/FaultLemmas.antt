@@ -1,5 +1,6 @@
 -- The faults of the links of a play are shown and counted, by the laws of play_faults.
 use Rattle.std.proofs.Common.{◌≡◌, ℕ, ◌+◌, ◌≤◌, List, [], map, arith, ap, sym, ◌∙◌}
+use Rattle.std.proofs.lemmas.Simd.{map-map}
 use Rattle.book_calls.specs.declared.entry.Entry.{Entry}
 use Rattle.link_traits.specs.Counts.{counted_on, grown_by}
 use Rattle.script_events.specs.declared.events.Transcript.{Transcript}
@@ -15,7 +16,6 @@ use Rattle.book_calls.specs.Entries.{entries_of}
 use Rattle.play_whole.specs.Faults.{AllAreTold, all_faults}
 use Rattle.play_seats.specs.Links.{grown_by_all, way_of}
 use Rattle.play_seats.specs.Makers.{Maker, TookAllBack}
-use Rattle.play_seats.proofs.ListLemmas.{map-map}
 use Rattle.link_traits.specs.Links.{LinkTold}
 
 -- so many more of so many more
@@ -69,5 +69,5 @@ counted-faults {L} {State} by told scenario base history placed counted shown ol
     let all = counted-from by scenario base history placed counted shown old.faults runs
     (told-faults by scenario base history placed counted shown runs) in
     let same : grown_by_all old.faults (map (λ (w : Way State). w.faults) (map (way_of told) back)) ≡ new.faults =
-    ap (grown_by_all old.faults) (map-map (way_of told) (λ (w : Way State). w.faults) back) ∙ sym took.counted in
+    ap (grown_by_all old.faults) (map-map (λ (w : Way State). w.faults) (way_of told) back) ∙ sym took.counted in
     omega (arith, all, same)
