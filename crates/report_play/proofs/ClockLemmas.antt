@@ -2,7 +2,6 @@
 -- start.
 use Rattle.std.proofs.Common.{◌≡◌, ℕ, zero, suc, ◌+◌, ◌*◌, ◌<◌, ◌≤◌, Bool, true, false, cond, List, [], ◌∷◌, Option}
 use Rattle.std.proofs.Common.{Some, None, Result, Ok, Err, refl, arith}
-use Rattle.std.specs.Prelude.{if◌then◌else◌, nat_le}
 use Rattle.fetch_acts.specs.declared.act.Act.{Act}
 use Rattle.fetch_acts.specs.declared.act.Input.{Input}
 use Rattle.fetch_acts.specs.Process.{Process, act, ended}
@@ -14,15 +13,16 @@ use Rattle.script_commands.specs.Scripts.{Step, Steps}
 use Rattle.script_commands.specs.Scripts as script
 use Rattle.script_commands.specs.Valid.{AreValid, IsValidStep}
 use Rattle.script_events.specs.declared.events.Ending.{Ending}
-use Rattle.script_events.specs.declared.events.Ending.TheVariants.{Commands, Finished}
+use Rattle.script_events.specs.declared.events.Ending.TheVariants.{Finished}
 use Rattle.script_events.specs.declared.events.Event.{Event}
 use Rattle.script_runs.specs.Play.{Play, emit, events_of, over, step}
 use Rattle.script_filling.specs.Results.{holds}
 use Rattle.script_runs.specs.Runs.{Next, Progress, Setting, after_events, asked, at_time, beginning, chosen}
 use Rattle.script_runs.specs.Runs.{command_run, document_run, embed, fault_event, fetch_started}
 use Rattle.script_filling.specs.Filled.{filled_init, filled_load}
-use Rattle.script_runs.specs.Runs.{fetched, finished, last_of, limit_before, outcome_event, own_limit, repeated}
+use Rattle.script_runs.specs.Runs.{fetched, finished, last_of, limit_before, outcome_event, repeated}
 use Rattle.script_runs.specs.Runs.{script_run, setting_of, showing, start_event, started, unless_limit, waited}
+use Rattle.script_runs.proofs.ScriptLemmas.{limit_before-none}
 use Rattle.script_runs.specs.Traces.{PlayTrace, shown, stepped, stop}
 use Rattle.script_scenarios.specs.declared.document.Document.{Document}
 use Rattle.fetch_requests.specs.Loading.{new_load}
@@ -49,11 +49,6 @@ record InTime (base : ℕ) (progress : Progress) : Type 0 where
 record InTimeToWait (base : ℕ) (progress : Progress) : Type 0 where
   pub few : progress.commands ≤ 16384
   pub early : progress.clock + 4294967296 ≤ base + progress.commands * 4294967296
-
-may-start : (one : Step) (progress : Progress) (most : Bool) → nat_le 16384 progress.commands ≡ most
-    → (if most then Some Commands else own_limit one progress) ≡ None → progress.commands < 16384
-may-start one progress true is none = absurd (cc)
-may-start one progress false is none = grind (arith, is)
 
 module _ (base : ℕ) (soon : base ≤ 1099511627776) (lent : Setting) where
   -- what follows ends early where no more seconds have passed
@@ -110,7 +105,7 @@ module _ (base : ℕ) (soon : base ≤ 1099511627776) (lent : Setting) where
       → EndsEarly (unless_limit limit (λ begun. next (started begun)) progress)
   unless-early one next early progress in_time (Some ending) is = over-early ending progress in_time
   unless-early one next early progress in_time None is =
-      let few : progress.commands < 16384 = may-start one progress (nat_le 16384 progress.commands) refl is in
+      let few : progress.commands < 16384 = limit_before-none one progress is in
       early (started progress) (record { few = omega (arith, few); early = omega (arith, in_time.early) })
 
   mutual

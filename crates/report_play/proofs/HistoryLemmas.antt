@@ -142,11 +142,6 @@ pub each-numbered : (P : ℕ → Type 0) (document turn : ℕ) (entries : List E
 each-numbered P document turn [] holds = tt
 each-numbered P document turn (e ∷ es) holds = (holds, each-numbered P document (turn + 1) es holds)
 
-pub each-both : (P : Entry → Type 0) (xs ys : List Entry) → AllByRecursion P xs → AllByRecursion P ys
-    → AllByRecursion P (xs ++ ys)
-each-both P [] ys first last = last
-each-both P (x ∷ xs) ys first last = (first.0, each-both P xs ys first.1 last)
-
 pub each-so : (P Q : ℕ → Type 0) (xs : List Entry) → ((n : ℕ) → P n → Q n)
     → AllByRecursion (λ (e : Entry). P e.document) xs → AllByRecursion (λ (e : Entry). Q e.document) xs
 each-so P Q [] so all = tt

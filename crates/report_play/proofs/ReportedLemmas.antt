@@ -5,6 +5,7 @@ use Rattle.std.specs.Prelude.{slice_get}
 use Rattle.std.specs.List.{All, AllByRecursion}
 use Rattle.std.proofs.lemmas.List.{append-nil}
 use Rattle.std.proofs.lemmas.List.Elements.{All-nil, All-cons, All-head, All-tail, All-map}
+use Rattle.value_lemmas.proofs.Lists.{AllByRecursion-append}
 use Rattle.book_calls.specs.declared.book.Book.{Book}
 use Rattle.book_calls.specs.declared.entry.Entry.{Entry}
 use Rattle.book_calls.specs.Entries.{Legal, book_after, entries_of}
@@ -28,7 +29,7 @@ use Rattle.report_delivery.specs.Reporting.{ending_of, reporting}
 use Rattle.report_play.specs.Plays.{AreInOrderFrom, EachReported, IsReported, IsReportedPlay}
 use Rattle.report_play.specs.Private.Delivered.{CanReport, EachDelivered, IsDelivered, WasReported, numbered}
 use Rattle.report_play.proofs.ClockLemmas.{document-early, ran-early}
-use Rattle.report_play.proofs.HistoryLemmas.{book-further, each-both, each-numbered, each-so, legal-further}
+use Rattle.report_play.proofs.HistoryLemmas.{book-further, each-numbered, each-so, legal-further}
 use Rattle.report_play.proofs.HistoryLemmas.{order-above, order-from, order-numbered, own-among, turns-further}
 use Rattle.report_play.proofs.RebaseLemmas.{runs-as}
 use Rattle.script_events.specs.declared.events.Ending.{Ending}
@@ -312,7 +313,7 @@ added-more scenario number document documents book history entries whole transcr
       whole_is = more.whole_is ∙ append_assoc history mine more.rest;
       in_order = order-numbered number transcript.document turn entries more.rest (omega (arith, is))
           (order-from transcript.document (number + 1) more.rest (omega (arith, is)) more.in_order);
-      named = each-both (λ (e : Entry). e.document < length scenario.documents) mine more.rest
+      named = AllByRecursion-append (λ (e : Entry). e.document < length scenario.documents) mine more.rest
           (each-numbered (λ n. n < length scenario.documents) transcript.document turn entries
           (omega (arith, is, few))) more.named;
       each = λ done below. EachReported.one_more
@@ -322,7 +323,7 @@ added-more scenario number document documents book history entries whole transcr
           (order-above (number + 1) more.rest more.in_order)))
           (subst (λ (l : List Entry). EachReported (IsReported scenario l) (number + 1) documents transcripts
           delivereds) (append_assoc done mine more.rest)
-          (more.each (done ++ mine) (each-both (λ (e : Entry). e.document < number + 1) done mine
+          (more.each (done ++ mine) (AllByRecursion-append (λ (e : Entry). e.document < number + 1) done mine
           (each-so (λ n. n < number) (λ n. n < number + 1) done (λ n lt. omega (arith, lt)) below)
           (each-numbered (λ n. n < number + 1) transcript.document turn entries (omega (arith, is))))));
     }
@@ -376,7 +377,7 @@ reported-play scenario made transcripts delivereds history link opening servers 
       legal = more.0;
       turns = more.1;
       named = subst (AllByRecursion (λ (e : Entry). e.document < length scenario.documents)) (sym came.whole_is)
-          (each-both (λ (e : Entry). e.document < length scenario.documents) scripts came.rest play.named came.named);
+          (AllByRecursion-append (λ (e : Entry). e.document < length scenario.documents) scripts came.rest play.named came.named);
       in_order = came.in_order;
       documents = came.each [] tt;
     }
