@@ -12,7 +12,7 @@ use Rattle.std.proofs.lemmas.List.{append-nil, take-append-drop, take_at, get_or
 use Rattle.std.proofs.lemmas.Option.{get_or_from_slice_get}
 use Rattle.std.specs.Prelude.{◌==◌, ◌&&◌, ◌||◌, not, filter, map, nat_lt, position, bytes_eq, IfOk, MatchBool}
 use Rattle.std.specs.List.{list_all, list_any, position_or_len, slice_get}
-use Rattle.book_calls.proofs.SoloLemmas.{reply-kind, yes_or_no-answers}
+use Rattle.book_calls.proofs.SoloLemmas.{reply-kind}
 use Rattle.value_lemmas.proofs.Lists.{position_or_len-no, position_or_len-yes}
 use Rattle.value_lemmas.proofs.Bytes.{bytes_eq-self}
 use Rattle.value_text.specs.declared.memory.OutOfMemory.{OutOfMemory}
@@ -39,7 +39,7 @@ use Rattle.book_preflights.specs.Keys as keys
 use Rattle.book_preflights.specs.declared.entry.Keyed.{Keyed}
 use Rattle.audit_replay.specs.Legality.{AreRight}
 use Rattle.audit_replay.specs.Private.Calls.{IsNext, IsNone, IsPassed, IsStrayed}
-use Rattle.audit_replay.specs.Tapes.{account_of, asks_nothing, before_stray, first_op, IsParted, IsTape, IsUsedUp}
+use Rattle.audit_replay.specs.Tapes.{account_of, asks_nothing, before_stray, first_op, IsTape}
 use Rattle.audit_replay.specs.Tapes.{lacks_method}
 use Rattle.audit_replay.specs.Tapes.{seen_on}
 use Rattle.audit_replay.specs.Tapes.{stray_entries, stray_reply, Tape}
@@ -184,13 +184,6 @@ right-take book turn zero history are = tt
 right-take book turn (suc n) [] are = tt
 right-take book turn (suc n) (e ∷ history) are = (are.0, right-take (after book e.op) (turn + 1) n history are.1)
 
-pub stray-kind : (op : Op) → is_answer (stray_reply op) ≡ is_question op
-stray-kind (Match host now) = refl
-stray-kind (Note host sts now) = refl
-stray-kind (Covers question now) = yes_or_no-answers (asks_nothing question)
-stray-kind (Learn lesson now) = refl
-stray-kind (Clear key origin url now) = refl
-
 -- the reply of an entry that is right is of its op's kind
 pub right-kind : (book : Book) (turn : ℕ) (front : List Entry) (e : Entry) (back : List Entry)
     → AreRight book turn (front ++ e ∷ back) → is_answer e.reply ≡ is_question e.op
@@ -321,15 +314,6 @@ differs tape index e op within next is other none same =
     let ops : next.entry.op ≡ op = cc in
     other (ap (λ (x : Entry). x.op) (next-at tape index e within next is) ∙ ops)
 
-pub none-differs : (tape : Tape) (op : Op) → entries_of tape.document (drop tape.at tape.history) ≡ [] → IsNone tape op
-none-differs tape op none strayed same =
-    let first : None ≡ Some op = sym (ap first_op none) ∙ same in cc
-
-pub parted-more : (next : List Entry) (strays : List Op) (op : Op) → IsParted next strays
-    → (strays ≡ [] → first_op next ≢ Some op) → IsParted next (strays ++ op ∷ [])
-parted-more next [] op parted other = other refl
-parted-more next (x ∷ strays) op parted other = parted
-
 -- ---- the account after a call
 
 front-one : (tape : Tape) (index : ℕ) → tape.at ≤ length tape.history → (next : IsNext tape index)
@@ -453,10 +437,6 @@ passed-kind tape op said new right passed =
     (subst (AreRight tape.opening 0) all right)
     ∙ ap is_question passed.op_is
 
-pub strayed-kind : (tape : Tape) (op : Op) (said : Reply) (new : Tape) → IsStrayed tape op said new
-    → is_answer said ≡ is_question op
-strayed-kind tape op said new strayed = ap is_answer strayed.reply_is ∙ stray-kind op
-
 -- ---- whether all was used
 
 tested : (ops : List Op) (b c : Bool) → b ≡ c → MatchBool c (ops ≡ []) (ops ≢ []) → MatchBool b (ops ≡ []) (ops ≢ [])
@@ -468,11 +448,6 @@ more-than-none n = grind (arith, nat_tests)
 pub empty-by : (ops : List Op) (b : Bool) → b ≡ (length ops == 0) → MatchBool b (ops ≡ []) (ops ≢ [])
 empty-by [] b e = tested [] b true e refl
 empty-by (op ∷ ops) b e = tested (op ∷ ops) b false (e ∙ more-than-none (length ops)) (λ same. cc)
-
-pub next-left : (tape : Tape) (index : ℕ) → IsNext tape index → IsUsedUp tape → ⊥
-next-left tape index next used =
-    let both : next.entry ∷ entries_of tape.document next.back ≡ [] =
-    sym (next-first tape index next) ∙ used.none_left in cc
 
 -- the next entry is passed, where it is of the op
 pub passes : (tape new : Tape) (index : ℕ) (e : Entry) (op : Op) → IsTape tape → tape.strays ≡ []

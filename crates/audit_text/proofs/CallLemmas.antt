@@ -139,11 +139,6 @@ three true true c e = (refl, refl, e)
 three true false c e = cc
 three false b c e = cc
 
-all-three : (a b c : Bool) → a ≡ true → b ≡ true → c ≡ true → (a && b && c) ≡ true
-all-three true true c x y z = z
-all-three true false c x y z = cc
-all-three false b c x y z = cc
-
 pub five : (a b c d f : Bool) → (a && b && c && d && f) ≡ true
     → (a ≡ true) × (b ≡ true) × (c ≡ true) × (d ≡ true) × (f ≡ true)
 five true true true true f e = (refl, refl, refl, refl, e)

@@ -7,18 +7,13 @@ use Rattle.value_decimal.specs.Decimals.{number_up_to}
 use Rattle.value_decimal.proofs.DecimalLemmas.{number-lacks, number-read, number-writes}
 use Rattle.script_events.specs.Lines.{line}
 use Rattle.audit_text.specs.Frames.{IsFramed}
-use Rattle.audit_text.specs.Histories.{IsLine}
 use Rattle.audit_text.specs.Private.Cuts.{IsCut}
-use Rattle.audit_text.proofs.LineLemmas.{no-line, one-line}
+use Rattle.audit_text.proofs.LineLemmas.{one-line}
 
 framed-line : (input scenario play : List ℕ) → IsFramed input scenario play
     → input ≡ line (decimal (length scenario)) ++ (scenario ++ play)
 framed-line input scenario play is =
     is.input_is ∙ sym (append_assoc (decimal (length scenario)) (codes "\n") (scenario ++ play))
-
-pub no-cut : (input : List ℕ) → IsLine input → (scenario play : List ℕ) → IsFramed input scenario play → ⊥
-no-cut input end scenario play is =
-    no-line input (decimal (length scenario)) (scenario ++ play) end (framed-line input scenario play is)
 
 -- what is cut is the number and what follows it
 one-frame : (input number rest scenario play : List ℕ) → IsCut input number rest → IsFramed input scenario play

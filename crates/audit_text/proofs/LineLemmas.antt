@@ -124,15 +124,6 @@ passes-more play rest first after passed is other = record {
       ∙ sym (lined-more passed.before first after);
 }
 
-pub passes-heading : (play rest first after : List ℕ) → Passes play rest → IsCut rest first after → first ≡ heading
-    → Passes play (line heading ++ after)
-passes-heading play rest first after passed is same = record {
-  before = passed.before;
-  others = passed.others;
-  text_is = passed.text_is ∙ ap (λ (l : List ℕ). lined passed.before ++ l) is.text_is
-      ∙ ap (λ (l : List ℕ). lined passed.before ++ (line l ++ after)) same;
-}
-
 lacks-heading : (others before : List (List ℕ)) (end rest : List ℕ) → All IsOther others → IsLine end
     → All IsLine before → lined others ++ end ≡ lined before ++ (line heading ++ rest) → ⊥
 lacks-heading [] [] end rest o le b e = no-line end heading rest le e
@@ -243,9 +234,6 @@ ends-in-line text e =
       are = cut.are;
       text_is = cut.text_is ∙ ap (λ (l : List ℕ). lined cut.lines ++ l) none ∙ append-nil (lined cut.lines);
     }
-
-pub no-lines : AreLines []
-no-lines = record { lines = []; are = All-nil IsLine; text_is = refl }
 
 lined-last : (first : List ℕ) (lines : List (List ℕ))
     → get_or (lined (first ∷ lines)) (length (lined (first ∷ lines)) - 1) 0 ≡ 10

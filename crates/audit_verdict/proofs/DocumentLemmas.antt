@@ -2,7 +2,7 @@
 use Rattle.std.proofs.Common.{◌≡◌, ◌≢◌, ◌<◌, ◌+◌, ℕ, List, [], ◌∷◌, ◌++◌, length, map, take}
 use Rattle.std.proofs.Common.{ap, sym, subst, ◌∙◌, arith, add-one, below_more, length-take}
 use Rattle.std.proofs.Math.Seq.{take-suc}
-use Rattle.std.proofs.lemmas.List.{map_push, take_all}
+use Rattle.std.proofs.lemmas.List.{map_push}
 use Rattle.std.proofs.lemmas.List.Elements.{All-nil, All-push}
 use Rattle.std.proofs.lemmas.Option.{get_or_from_slice_get, slice_get_within}
 use Rattle.book_calls.specs.declared.entry.Entry.{Entry}
@@ -14,8 +14,8 @@ use Rattle.script_scenarios.specs.declared.document.Document.{Document}
 use Rattle.script_scenarios.specs.declared.scenario.Scenario.{Scenario}
 use Rattle.script_scenarios.specs.declared.servers.Server.{Server}
 use Rattle.play_definitions.specs.Plays.{IsTranscript, Way, by_rules, way_to_servers}
-use Rattle.audit_verdict.specs.Verdicts.{Comes, ComesTo, StopsAt}
-use Rattle.audit_verdict.specs.Private.Runs.{AllCame, CameTo}
+use Rattle.audit_verdict.specs.Verdicts.{Comes, ComesTo}
+use Rattle.audit_verdict.specs.Private.Runs.{CameTo}
 
 -- one document more
 each-more : {State : Type 0} {Is : ℕ → Document → State → State → Transcript → Type 0} {number : ℕ}
@@ -82,21 +82,3 @@ one-more-came scenario history count transcripts transcript so_far came =
         comes = came.comes;
       });
     }
-
-pub all-came : (scenario : Scenario) (history : List Entry) (transcripts : List Transcript)
-    → CameSoFar scenario history (length scenario.documents) transcripts → AllCame scenario history transcripts
-all-came scenario history transcripts so_far =
-    let all : take (length scenario.documents) scenario.documents ≡ scenario.documents =
-    take_all (length scenario.documents) scenario.documents (omega arith) in
-    record {
-      runs = subst (λ (l : List Document). EachDocument (IsTranscript by_rules scenario scenario.now history) 0 l
-          (map (λ (d : Document). way_to_servers scenario) l) (map (λ (d : Document). way_to_servers scenario) l)
-          transcripts) all so_far.runs;
-      told = so_far.told;
-    }
-
-pub stops-here : (scenario : Scenario) (history : List Entry) (number : ℕ) (transcripts : List Transcript)
-    → number < length scenario.documents → CameSoFar scenario history number transcripts
-    → ¬ (Comes scenario history number) → StopsAt scenario history number
-stops-here scenario history number transcripts within so_far stops =
-    record { within = within; before = so_far.before; stops = stops }

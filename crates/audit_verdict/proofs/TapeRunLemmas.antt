@@ -12,22 +12,19 @@ use Rattle.book_calls.specs.declared.op.Op.{Op}
 use Rattle.book_calls.specs.declared.op.Reply.TheVariants.{Done}
 use Rattle.book_calls.specs.Entries.{entries_of, entry}
 use Rattle.book_calls.proofs.EntryLemmas.{entries_of-append}
-use Rattle.script_events.specs.declared.events.Ending.{Ending}
 use Rattle.script_events.specs.declared.events.Ending.TheVariants as ending
-use Rattle.script_events.specs.declared.events.Event.{Event}
 use Rattle.script_events.specs.declared.events.Transcript.{Transcript}
-use Rattle.script_runs.specs.Play.{Play}
 use Rattle.script_runs.specs.Runs.{document_client, document_run}
 use Rattle.script_scenarios.specs.declared.document.Document.{Document}
 use Rattle.script_scenarios.specs.declared.scenario.Scenario.{Scenario}
 use Rattle.script_scenarios.specs.declared.servers.Server.{Server}
 use Rattle.play_servers.specs.Sim.{SimState}
-use Rattle.fetch_wire.specs.Exchanges.{Answering}
 use Rattle.play_definitions.specs.Playing.{RunCameTo, RunPlayed}
 use Rattle.play_definitions.specs.Worlds.{Outside, outside}
 use Rattle.play_isolation.specs.Calls.{PartAtReply}
 use Rattle.play_isolation.specs.Laws.{CallsFollow}
 use Rattle.play_definitions.specs.Plays.{RunsOver, by_rules, outside_on, way_to_servers}
+use Rattle.play_seats.proofs.ClosedLemmas.{ran-of}
 use Rattle.play_seats.proofs.ServerLemmas.{by_bytes, ran-by-rules, sim_told, trace-state}
 use Rattle.audit_replay.specs.Tapes.{IsParted, IsTape, IsUsedUp, Tape, account_of, before_stray, first_op, seen_on}
 use Rattle.audit_replay.specs.Tapes.{stray_entries, stray_reply}
@@ -35,16 +32,6 @@ use Rattle.audit_verdict.specs.Verdicts.{Comes, ComesTo}
 use Rattle.audit_verdict.specs.Private.Runs.{CameTo}
 
 -- ---- the transcript that a run over a tape comes to
-
-ran-of : {State : Type 0} (by : Answering State) (limit document : ℕ) (whole : Play) (old : Outside State)
-    (events : List Event) (ended : Ending) (clock : ℕ) (new : Outside State) → ended ≢ ending.Memory
-    → RunCameTo by limit document whole old events ended clock new
-    → RunPlayed by limit document whole old events ended clock new
-ran-of by limit document whole old events ending.Finished clock new told x = x
-ran-of by limit document whole old events ending.Fetches clock new told x = x
-ran-of by limit document whole old events ending.Commands clock new told x = x
-ran-of by limit document whole old events ending.Text clock new told x = x
-ran-of by limit document whole old events ending.Memory clock new told x = absurd (told refl)
 
 -- a pass on which no call was made, and a link to the servers with nothing to come
 abbrev pub fresh_tape : ℕ → Book → List Entry → Tape
