@@ -1,6 +1,6 @@
 -- The values of a name in header lists that are made by appending, and in the lists of a hop.
-use Rattle.std.proofs.Common.{◌≡◌, ℕ, suc, Bool, true, false, cond, List, [], ◌∷◌, ◌++◌, length}
-use Rattle.std.proofs.Common.{Contains, Option, Some, None, map, filter, refl, ap, sym, ◌∙◌, arith}
+use Rattle.std.proofs.Common.{◌≡◌, ℕ, Bool, true, false, cond, List, [], ◌∷◌, ◌++◌, length}
+use Rattle.std.proofs.Common.{Option, Some, None, map, filter, refl, ap, sym, ◌∙◌, arith}
 use Rattle.std.proofs.Common.{append_assoc, if◌then◌else◌}
 use Rattle.std.proofs.lemmas.List.{append-nil, map-append}
 use Rattle.std.proofs.lemmas.List.Elements.{filter-append}
@@ -22,11 +22,6 @@ use Rattle.server_access.proofs.ListLemmas.{each-more}
 -- the values of some headers
 abbrev pub values : List Header → List (List ℕ)
 values headers = map (λ (h : Header). h.value) headers
-
-one-value : (b : Bool) (one other : Header) → one.value ≡ other.value
-    → values (cond b (one ∷ []) []) ≡ values (cond b (other ∷ []) [])
-one-value true one other same = ap (λ (v : List ℕ). v ∷ []) same
-one-value false one other same = refl
 
 -- the value, where the name is asked for
 abbrev pub value_if : Bool → List ℕ → List (List ℕ)
@@ -111,21 +106,6 @@ there name value rest headers some = by-test (contains name headers) refl
     by-test true is = is
     by-test false is =
         let same : [] ≡ value ∷ rest = sym (no-values name headers is) ∙ some in absurd (cc)
-
--- the first value of a name is that of a header in the list
-pub first-at : (name value : List ℕ) (rest : List (List ℕ)) (headers : List Header)
-    → values_of name headers ≡ value ∷ rest
-    → (one : Header) × Contains headers one × (one.value ≡ value)
-first-at name value rest [] some = absurd (cc)
-first-at name value rest (one ∷ more) some = by-test (first-at name value rest more) (is_named name one) some
-  where
-    by-test : (values_of name more ≡ value ∷ rest → (one : Header) × Contains more one × (one.value ≡ value))
-        → (b : Bool) → values (cond b (one ∷ filter (is_named name) more) (filter (is_named name) more)) ≡ value ∷ rest
-        → (here : Header) × Contains (one ∷ more) here × (here.value ≡ value)
-    by-test later true is = (one, (0, omega arith, refl), cc is)
-    by-test later false is =
-        let found = later is in
-        (found.0, (suc found.1.0, omega (arith, found.1.1), found.1.2), found.2)
 
 -- ---- lines
 

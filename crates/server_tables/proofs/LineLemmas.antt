@@ -102,14 +102,6 @@ where-yes texts is = ap (λ (b : Bool). if b then Some texts else None) is
 pub where-no : (texts : List (List ℕ)) → list_all may_be_listed texts ≡ false → where_listed texts ≡ None
 where-no texts is = ap (λ (b : Bool). if b then Some texts else None) is
 
-pub not-four : (parts : List (List ℕ)) → (length parts ≡ 4 → ⊥) → row_of_parts parts ≡ None
-not-four [] other = refl
-not-four (a ∷ []) other = refl
-not-four (a ∷ b ∷ []) other = refl
-not-four (a ∷ b ∷ c ∷ []) other = refl
-not-four (a ∷ b ∷ c ∷ d ∷ []) other = absurd (other refl)
-not-four (a ∷ b ∷ c ∷ d ∷ e ∷ parts) other = refl
-
 -- a line of a length that is taken
 pub row-within : (line : List ℕ) → length line ≤ 4096
     → row_in line ≡ row_of_parts (slice_split (λ byte. byte == space) line)

@@ -16,7 +16,7 @@ use Rattle.link_http1.proofs.RequestLemmas.{request-shortest}
 use Rattle.link_http1.specs.Blocks.{is_block, is_line_byte}
 use Rattle.link_http1.specs.RequestHeads.{BeginsRequest, IsRead}
 use Rattle.link_http1.specs.declared.request_head.Asked.{Asked}
-use Rattle.server_tables.specs.Private.Coming.{Gives, HasBlock, HasCome, HasEnded, HasFailed, HasHeard, HasNoBlock, IsOver}
+use Rattle.server_tables.specs.Private.Coming.{Gives, HasBlock, HasCome, HasEnded, HasFailed, HasHeard, IsOver}
 use Rattle.server_tables.specs.Private.Coming.{IsSearched}
 use Rattle.server_tables.specs.Serving.{most_read, peer_told, PeerTold, WasUnheard}
 use Rattle.server_tables.specs.declared.listen.Search.{Search}
@@ -37,14 +37,6 @@ gives-both a b c xs ys one two = record {
 
 pub gives-none : (a : PeerTold) → Gives a a []
 gives-none a = record { gave = gave-nothing a.source.left; sink = refl }
-
--- a read that gave nothing
-pub gives-same : (a b c : PeerTold) (xs : List ℕ) → Gives a b xs → c.source.left ≡ b.source.left → c.sink ≡ b.sink
-    → Gives a c xs
-gives-same a b c xs before left sink = record {
-  gave = subst (λ (o : Option (List ℕ)). Gave a.source.left o xs) (sym left) before.gave;
-  sink = sink ∙ before.sink;
-}
 
 -- By what a peer tells:
 module _ {P : Type 0} (gives : P → SourceTold) (takes : P → SinkTold) (beside : P → SinkTold)
@@ -74,21 +66,7 @@ module _ {P : Type 0} (gives : P → SourceTold) (takes : P → SinkTold) (besid
     omega (arith, room, length-append bytes (take count buffer), length-take count buffer),
   )
 
-  -- one that failed
-  pub read-none : (first old new : P) (bytes : List ℕ) → Gives (told first) (told old) bytes
-      → (gives new).left ≡ (gives old).left → beside new ≡ beside old → Gives (told first) (told new) bytes
-  read-none first old new bytes before same other =
-      gives-same (told first) (told old) (told new) bytes before same (sink-kept old new other)
-
 -- ---- blocks
-
-pub searched-more : (search : Search) (bytes piece : List ℕ) → IsSearched search bytes
-    → IsSearched search (bytes ++ piece)
-searched-more search bytes piece is = record {
-  within = omega (arith, is.within, length-append bytes piece);
-  begun_is = is.begun_is ∙ ap (list_any is_line_byte) (sym (take-append-le search.searched bytes piece is.within));
-  none = λ n few. ap is_block (take-append-le n bytes piece (omega (arith, few, is.within))) ∙ is.none n few;
-}
 
 pub begun-more : (old new : Search) (bytes : List ℕ) → IsSearched old bytes → old.searched < length bytes
     → new.searched ≡ old.searched + 1 → new.begun ≡ (old.begun || is_line_byte (get_or bytes old.searched 0))
@@ -97,11 +75,6 @@ begun-more old new bytes is less one begun =
     begun ∙ ap (λ (b : Bool). b || is_line_byte (get_or bytes old.searched 0)) is.begun_is
     ∙ sym (list_any_more is_line_byte bytes old.searched 0 less)
     ∙ ap (λ (n : ℕ). list_any is_line_byte (take n bytes)) (sym one)
-
-pub searched-all : (search : Search) (bytes : List ℕ) → IsSearched search bytes → search.searched ≡ length bytes
-    → HasNoBlock bytes
-searched-all search bytes is all = λ n.
-    ap is_block (sym (take_min n bytes)) ∙ is.none (min n (length bytes)) (omega (arith, all))
 
 -- one byte more is searched
 pub searched-on : (old new : Search) (bytes : List ℕ) → IsSearched old bytes → old.searched < length bytes

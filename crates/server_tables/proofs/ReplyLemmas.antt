@@ -2,12 +2,10 @@
 use Rattle.std.proofs.Common.{◌≡◌, ◌∙◌, ap, sym, refl, ℕ, Bool, true, false, List, [], ◌∷◌, ◌++◌, append_assoc}
 use Rattle.std.proofs.Common.{codes}
 use Rattle.std.proofs.Common.{if◌then◌else◌}
-use Rattle.std.proofs.lemmas.List.{append-nil}
 use Rattle.std.specs.Fmt.{digits}
-use Rattle.std.specs.List.{flat_map, join_with_byte, list_all}
+use Rattle.std.specs.List.{flat_map, list_all}
 use Rattle.std.specs.Prelude.{map}
 use Rattle.value_lemmas.proofs.Lists.{append-three}
-use Rattle.value_text.specs.Ascii.{comma}
 use Rattle.value_headers.specs.declared.headers.Header.{Header}
 use Rattle.link_http1.specs.Requests.{header_line}
 use Rattle.link_http1.specs.declared.request_head.Asked.{Asked}
@@ -60,11 +58,6 @@ granted-bytes origin methods names true =
 granted-bytes origin methods names false =
     ap (λ (l : List ℕ). codes "Vary: Origin\r\nAccess-Control-Allow-Origin: " ++ l)
     (append_assoc origin (codes "\r\n") [])
-
-pub list-bytes : (name first : List ℕ) (rest : List (List ℕ)) → flat_map header_line (list_header name (first ∷ rest))
-    ≡ name ++ (codes ": " ++ (join_with_byte comma (first ∷ rest) ++ codes "\r\n"))
-list-bytes name first rest =
-    append-nil (name ++ (codes ": " ++ (join_with_byte comma (first ∷ rest) ++ codes "\r\n")))
 
 -- ---- answers
 
