@@ -3,8 +3,10 @@ use Rattle.std.proofs.Common.{◌≡◌, ℕ, ◌+◌, ◌≤◌, ◌<◌, List,
 use Rattle.std.proofs.Common.{inl, inr}
 use Rattle.std.specs.Prelude.{option_map}
 use Rattle.std.proofs.Common.{Option, Some, None, append_assoc, length-append}
-use Rattle.std.specs.List.{AllByRecursion, flat_map}
-use Rattle.link_traits.proofs.SinkLemmas.{part-after, took-again}
+use Rattle.std.proofs.lemmas.List.{append-nil, map-append}
+use Rattle.std.proofs.lemmas.List.Concat.{flat_map-append}
+use Rattle.value_lemmas.proofs.Lists.{AllByRecursion-append}
+use Rattle.link_traits.proofs.SinkLemmas.{part-after, took-again, took-nothing}
 use Rattle.link_traits.specs.Counts.{Rose}
 use Rattle.link_traits.specs.Accepts.{GaveFirst}
 use Rattle.link_traits.specs.Links.{Lendings, one_out, TookBack}
@@ -22,35 +24,7 @@ use Rattle.program_shell.specs.declared.status.Status.{Status}
 use Rattle.program_shell.specs.declared.status.Status.TheVariants as status
 use Rattle.server_tables.specs.declared.read.BadLine.{BadLine}
 
--- ---- lists
-
-all-both : {X : Type 0} (P : X → Type 0) (xs ys : List X) → AllByRecursion P xs → AllByRecursion P ys
-    → AllByRecursion P (xs ++ ys)
-all-both P [] ys one two = two
-all-both P (x ∷ xs) ys one two = (one.0, all-both P xs ys one.1 two)
-
-map-both : {X Y : Type 0} (f : X → Y) (xs ys : List X) → map f (xs ++ ys) ≡ map f xs ++ map f ys
-map-both f [] ys = refl
-map-both f (x ∷ xs) ys = ap (λ l. f x ∷ l) (map-both f xs ys)
-
-flat-both : {X : Type 0} (f : X → List ℕ) (xs ys : List X) → flat_map f (xs ++ ys) ≡ flat_map f xs ++ flat_map f ys
-flat-both f [] ys = refl
-flat-both f (x ∷ xs) ys =
-    ap (λ (l : List ℕ). f x ++ l) (flat-both f xs ys) ∙ sym (append_assoc (f x) (flat_map f xs) (flat_map f ys))
-
-append-none : {X : Type 0} (xs : List X) → xs ++ [] ≡ xs
-append-none [] = refl
-append-none (x ∷ xs) = ap (λ l. x ∷ l) (append-none xs)
-
-append-three : {X : Type 0} (xs ys zs : List X) → (xs ++ ys) ++ zs ≡ xs ++ (ys ++ zs)
-append-three [] ys zs = refl
-append-three (x ∷ xs) ys zs = ap (λ l. x ∷ l) (append-three xs ys zs)
-
 -- ---- ends
-
-pub wrote-none : (taken : Option (List ℕ)) → Took taken taken []
-wrote-none None = tt
-wrote-none (Some bytes) = ap (λ (l : List ℕ). let told : Option (List ℕ) = Some l in told) (sym (append-none bytes))
 
 module _ {End : Type 0} where
   gave-both : (a b c : Option (List End)) (xs ys : List End) → GaveEnds a b xs → GaveEnds b c ys
@@ -58,7 +32,7 @@ module _ {End : Type 0} where
   gave-both None b c xs ys one two = tt
   gave-both (Some old) b c xs ys one two =
       let next = subst (λ (o : Option (List End)). GaveEnds o c ys) one.1 two in
-      (next.0, next.1, one.2 ∙ ap (λ (l : List End). xs ++ l) next.2 ∙ sym (append-three xs ys next.0))
+      (next.0, next.1, one.2 ∙ ap (λ (l : List End). xs ++ l) next.2 ∙ sym (append_assoc xs ys next.0))
 
   took-both : (a b c : Option (Lendings End)) (xs ys : List End) → TookEnds a b xs → TookEnds b c ys
       → TookEnds a c (xs ++ ys)
@@ -66,7 +40,7 @@ module _ {End : Type 0} where
   took-both (Some old) b c xs ys one two =
       let next = subst (λ (o : Option (Lendings End)). TookEnds o c ys) one two in
       next ∙ ap (λ (l : List End). let told : Option (Lendings End) = Some (record { back = l; out = old.out }) in told)
-      (append-three old.back xs ys)
+      (append_assoc old.back xs ys)
 
   gave-none : (a : Option (List End)) → GaveEnds a a []
   gave-none None = tt
@@ -76,7 +50,7 @@ module _ {End : Type 0} where
   took-none None = tt
   took-none (Some old) =
       ap (λ (l : List End). let told : Option (Lendings End) = Some (record { back = l; out = old.out }) in told)
-      (sym (append-none old.back))
+      (sym (append-nil old.back))
 
 module _ {End : Type 0} where
   -- one end was given, and taken back
@@ -105,10 +79,10 @@ module _ {End : Type 0} (told : End → PeerTold) (table : List Row) where
   pub served-both : (a b c : AcceptsTold End) (xs ys : List (Connection End)) → HasServed told table a b xs
       → HasServed told table b c ys → HasServed told table a c (xs ++ ys)
   served-both a b c xs ys one two = record {
-    each = all-both (IsServedBy told table) xs ys one.each two.each;
-    gave = rw (map-both (λ (k : Connection End). k.given) xs ys)
+    each = AllByRecursion-append (IsServedBy told table) xs ys one.each two.each;
+    gave = rw (map-append (λ (k : Connection End). k.given) xs ys)
         (gave-both a.coming b.coming c.coming (map (λ k. k.given) xs) (map (λ k. k.given) ys) one.gave two.gave);
-    took = rw (map-both (λ (k : Connection End). k.back) xs ys)
+    took = rw (map-append (λ (k : Connection End). k.back) xs ys)
         (took-both a.lent b.lent c.lent (map (λ k. k.back) xs) (map (λ k. k.back) ys) one.took two.took);
     opened = two.opened ∙ one.opened;
   }
@@ -147,7 +121,7 @@ module _ {End : Type 0} (told : End → PeerTold) (table : List Row) where
   }
 
   pub line-one : (one : Connection End) → lines_of (one ∷ []) ≡ line_of one.served
-  line-one one = append-none (line_of one.served)
+  line-one one = append-nil (line_of one.served)
 
   -- and its line was written
   pub noted-one : (a c : AcceptsTold End) (k l : SinkTold) (one : Connection End) (verdict : Status BadLine)
@@ -188,7 +162,7 @@ module _ {End : Type 0} (told : End → PeerTold) (table : List Row) where
         few = omega (arith);
         served = done;
         took = subst (Took k.taken l.taken) (sym (line-one one ∙ ap line_of is))
-            (subst (λ (o : SinkTold). Took k.taken o.taken []) (sym kept) (wrote-none k.taken));
+            (subst (λ (o : SinkTold). Took k.taken o.taken []) (sym kept) (took-nothing k.taken));
       })
 
       by : (served : Served) (verdict : Status BadLine) → one.served ≡ served → IsNoted k l served verdict
@@ -199,7 +173,7 @@ module _ {End : Type 0} (told : End → PeerTold) (table : List Row) where
       by served.OutOfMemory verdict is noted = short verdict is noted.0 noted.1
 
   lines-both : (xs ys : List (Connection End)) → lines_of (xs ++ ys) ≡ lines_of xs ++ lines_of ys
-  lines-both xs ys = flat-both (λ (k : Connection End). line_of k.served) xs ys
+  lines-both xs ys = flat_map-append (λ (k : Connection End). line_of k.served) xs ys
 
   pub all-none : (a : AcceptsTold End) (k : SinkTold) → HasServedAll told table 0 a a k k
   all-none a k = record {
@@ -207,7 +181,7 @@ module _ {End : Type 0} (told : End → PeerTold) (table : List Row) where
     all = refl;
     served = served-none a;
     lines = tt;
-    took = wrote-none k.taken;
+    took = took-nothing k.taken;
     quiet = refl;
     faults = omega (arith);
     zeros = omega (arith);
@@ -219,7 +193,7 @@ module _ {End : Type 0} (told : End → PeerTold) (table : List Row) where
       connections = before.connections ++ one.connections;
       all = omega (arith, length-append before.connections one.connections, before.all, one.all);
       served = served-both a b c before.connections one.connections before.served one.served;
-      lines = all-both (λ k. HasLine k.served) before.connections one.connections before.lines one.lines;
+      lines = AllByRecursion-append (λ k. HasLine k.served) before.connections one.connections before.lines one.lines;
       took = took-again k.taken l.taken m.taken (lines_of before.connections) (lines_of one.connections) _ before.took
           one.took (lines-both before.connections one.connections);
       quiet = one.quiet ∙ before.quiet;

@@ -1,12 +1,13 @@
 -- What the program's account of its answer says of each status.
-use Rattle.std.proofs.Common.{◌≡◌, ◌≢◌, false, ℕ, ◌⊎◌, inl, inr, List, [], Option, Some, None, refl, ap, sym, subst, ◌∙◌}
+use Rattle.std.proofs.Common.{◌≡◌, ◌≢◌, false, ℕ, ◌⊎◌, inl, inr, List, [], Option, Some, None, refl, sym, subst, ◌∙◌}
 use Rattle.std.proofs.Common.{arith}
+use Rattle.link_traits.proofs.SourceLemmas.{gave-nothing}
 use Rattle.link_traits.specs.Counts.{Rose}
 use Rattle.link_traits.specs.Sinks.{SinkTold}
 use Rattle.link_traits.specs.Sources.{Gave, SourceTold}
 use Rattle.program_shell.proofs.ProgramLemmas.{Ends, answer-by, answer-or, answer-told, answer-verdict, answer-write}
 use Rattle.program_shell.proofs.ProgramLemmas.{cannot-failed}
-use Rattle.program_shell.proofs.ProgramLemmas.{done-read, done-usage, done-write, gave-nothing, input-answers, is-reading}
+use Rattle.program_shell.proofs.ProgramLemmas.{done-read, done-usage, done-write, input-answers, is-reading}
 use Rattle.program_shell.specs.Complaints.{IsAnswer}
 use Rattle.program_shell.specs.Inputs.{Reads, Refuses}
 use Rattle.program_shell.specs.Program.{IsExcused}
@@ -21,7 +22,7 @@ use Rattle.server_words.specs.Words.{are_texts, task_of}
 use Rattle.server_words.specs.declared.words.Task.{Task}
 use Rattle.program_corsserve.specs.Complaints.{complaint}
 use Rattle.program_corsserve.specs.Connections.{AcceptsTold, Serves}
-use Rattle.program_corsserve.specs.Program.{Answers, Finishes, IsDone, IsServed, IsUntouched, IsVerdict, most_input}
+use Rattle.program_corsserve.specs.Program.{Answers, Finishes, IsServed, IsUntouched, IsVerdict, most_input}
 
 module _ {End : Type 0} (told : End → PeerTold) (input input' : SourceTold) (accepts accepts' : AcceptsTold End)
     (output output' : SinkTold) where

@@ -1,16 +1,15 @@
 -- What a program's account of its answer says of each status.
-use Rattle.std.proofs.Common.{◌≡◌, ◌≢◌, ℕ, ◌+◌, ◌≤◌, ◌<◌, ◌⊎◌, inl, inr, List, [], ◌++◌, length}
-use Rattle.std.proofs.Common.{Option, Some, None, Result, Ok, Err, refl, ap, sym, subst, ◌∙◌, arith, length-append}
-use Rattle.std.proofs.lemmas.List.{append-nil}
+use Rattle.std.proofs.Common.{◌≡◌, ◌≢◌, ℕ, ◌+◌, ◌≤◌, ◌<◌, ◌⊎◌, inl, inr, List, length}
+use Rattle.std.proofs.Common.{Option, Some, None, Result, Ok, Err, refl, ap, sym, subst, ◌∙◌, arith}
+use Rattle.link_traits.proofs.SourceLemmas.{gave-all, gave-short}
 use Rattle.link_traits.specs.Counts.{Rose}
 use Rattle.link_traits.specs.Sinks.{SinkTold}
-use Rattle.link_traits.specs.Sources.{Gave, IsAtEnd, SourceTold}
-use Rattle.std.specs.Prelude.{IfErr, IfOk}
+use Rattle.link_traits.specs.Sources.{Gave, SourceTold}
 use Rattle.value_text.specs.declared.memory.OutOfMemory.{OutOfMemory}
 use Rattle.link_traits.specs.declared.sink.WriteFault.{WriteFault}
-use Rattle.program_shell.specs.Complaints.{CannotComplain, HasComplained, IsAnswer, IsComplained, IsTold, told}
-use Rattle.program_shell.specs.Inputs.{IsGiven, IsRead, IsStopped, IsUnread, IsWhole, IsWhyStopped, Reads}
-use Rattle.program_shell.specs.Inputs.{Refuses, read_as}
+use Rattle.program_shell.specs.Complaints.{CannotComplain, HasComplained, IsAnswer}
+use Rattle.program_shell.specs.Inputs.{IsRead, IsUnread, IsWhole, IsWhyStopped, Reads}
+use Rattle.program_shell.specs.Inputs.{Refuses}
 use Rattle.program_shell.specs.Program.{AnswersInput, AnswersText, IsCause, IsDone, IsExcusedRead, IsPlayed, IsWritten}
 use Rattle.program_shell.specs.Sinks.{Failed}
 use Rattle.program_shell.specs.declared.status.Status.{Status}
@@ -21,13 +20,6 @@ use Rattle.program_shell.specs.declared.status.Status.TheVariants as status
 pub cannot-failed : (line : Option (List ℕ)) (c c' : SinkTold) → CannotComplain line c c' → Failed c c'
 cannot-failed None c c' t = absurd t
 cannot-failed (Some line) c c' t = t.1
-
--- what came of writing the line tells the verdict
-pub complained-told : {R : Type 0} (line : Option (List ℕ)) (c c' : SinkTold) (verdict : Status R)
-    (complained : Result (Unit {0}) WriteFault) → IsComplained line c c' complained
-    → IsTold line c c' verdict (told verdict complained)
-complained-told line c c' verdict (Ok _) is = inl (refl, is)
-complained-told line c c' verdict (Err _) is = inr (refl, is)
 
 module _ {R : Type 0} {V : Status R → Type 0} {complaint : Status R → Option (List ℕ)} {c c' : SinkTold}
     {answer : Status R} (a : IsAnswer V complaint c c' answer) where
@@ -58,31 +50,6 @@ module _ {R : Type 0} {V : Status R → Type 0} {complaint : Status R → Option
   -- the same account by a weaker verdict
   pub answer-by : {W : Status R → Type 0} → ((v : Status R) → V v → W v) → IsAnswer W complaint c c' answer
   answer-by of = record { verdict = a.verdict; is_verdict = of a.verdict a.is_verdict; is_told = a.is_told }
-
--- ---- what the input gave
-
--- where the input tells, what was read to the end is all of it
-whole-told : (bytes given : List ℕ) (old new : Option (List ℕ)) → old ≡ Some bytes → Gave old new given → IsAtEnd new
-    → given ≡ bytes
-whole-told bytes given None new tells gave end = cc
-whole-told bytes given (Some left) new tells gave end =
-    let nothing : gave.0 ≡ [] = subst (λ (o : Option (List ℕ)). IsAtEnd o) gave.1 end in
-    let all : left ≡ given = gave.2 ∙ ap (λ (l : List ℕ). given ++ l) nothing ∙ append-nil given in
-    let same : left ≡ bytes = cc (tells) in
-    sym all ∙ same
-
--- what was read is no longer than what the input tells
-given-short : (bytes given : List ℕ) (old new : Option (List ℕ)) → old ≡ Some bytes → Gave old new given
-    → length given ≤ length bytes
-given-short bytes given None new tells gave = cc
-given-short bytes given (Some left) new tells gave =
-    let same : left ≡ bytes = cc (tells) in
-    omega (arith, ap length same, ap length gave.2, length-append given gave.0)
-
--- nothing was read
-pub gave-nothing : (left : Option (List ℕ)) → Gave left left []
-gave-nothing None = tt
-gave-nothing (Some left) = (left, refl, refl)
 
 -- ---- an input that was read
 
@@ -123,35 +90,6 @@ is-reading {A} {R} reading = record {
 
     same : (read : Result A R) (a b : R) → read ≡ Err a → read ≡ Err b → a ≡ b
     same read a b x y = cc
-
--- an input that was not read to its end
-pub stopped-unread : {A R : Type 0} {most : ℕ} (Reads : List ℕ → A → Type 0) (Refuses : List ℕ → Status R → Type 0)
-    {input input' : SourceTold} {verdict : Status R} → IsStopped most input input' verdict
-    → IsUnread most Reads Refuses input input' verdict
-stopped-unread Reads Refuses s = record { bytes = s.bytes; gave = s.gave; why = inl s.why }
-
--- one that was, by how its bytes are read
--- what holds of what was read
-pub read-valid : {A R : Type 0} (Holds : A → Type 0) (read : Result (Result A R) OutOfMemory)
-    → IfOk read (λ done. IfOk done Holds) → IfOk (read_as read) Holds
-read-valid Holds (Ok (Ok asked)) holds = holds
-read-valid Holds (Ok (Err reason)) holds = tt
-read-valid Holds (Err _) holds = tt
-
-module _ {A R : Type 0} {most : ℕ} (reading : List ℕ → Result A R) {input input' : SourceTold} {bytes : List ℕ}
-    (given : IsGiven most input input' bytes) where
-  pub given-read : (read : Result (Result A R) OutOfMemory) → IfOk read (λ done. done ≡ reading bytes)
-      → IfOk (read_as read) (IsRead most (Reads reading) (Refuses reading) input input')
-  given-read (Ok (Ok asked)) is = record { bytes = bytes; given = given; reads = sym is }
-  given-read (Ok (Err reason)) is = tt
-  given-read (Err _) is = tt
-
-  pub given-unread : (read : Result (Result A R) OutOfMemory) → IfOk read (λ done. done ≡ reading bytes)
-      → IfErr (read_as read) (IsUnread most (Reads reading) (Refuses reading) input input')
-  given-unread (Ok (Ok asked)) is = tt
-  given-unread (Ok (Err reason)) is =
-      record { bytes = bytes; gave = given.gave; why = inr (given.whole, (reason, refl, sym is)) }
-  given-unread (Err _) is = record { bytes = bytes; gave = given.gave; why = inl given.whole.short }
 
 module _ {A R : Type 0} (most : ℕ) (Reads : List ℕ → A → Type 0) (Refuses : List ℕ → Status R → Type 0)
     (Untouched : Type 0) (Works : A → Status R → Type 0) where
@@ -257,12 +195,12 @@ module _ {A R : Type 0} (most : ℕ) (Reads : List ℕ → A → Type 0) (Refuse
       -- where the input tells its bytes
       module _ (bytes : List ℕ) (tells : input.left ≡ Some bytes) where
         same-whole : (given : List ℕ) → Gave input.left input'.left given → IsWhole most given input' → given ≡ bytes
-        same-whole given gave whole = whole-told bytes given input.left input'.left tells gave whole.end
+        same-whole given gave whole = gave-all bytes given input.left input'.left tells gave whole.end
 
         not-longer : (given : List ℕ) → Gave input.left input'.left given → length bytes ≤ most
             → length given ≡ most + 1 → ⊥
         not-longer given gave short long =
-            omega (arith, given-short bytes given input.left input'.left tells gave, long, short)
+            omega (arith, gave-short bytes given input.left input'.left tells gave, long, short)
 
         done-complete : (asked : A) → length bytes ≤ most → Reads bytes asked → (v : Status R) → Done input input' v
             → Finishes v ⊎ Excused v

@@ -1,9 +1,10 @@
 use Rattle.std.proofs.Common.{[], arith, sym, subst}
+use Rattle.link_traits.proofs.SinkLemmas.{took-nothing}
 use Rattle.server_tables.specs.Serving.{peer_told}
 use Rattle.server_tables.specs.declared.serving.Served.{Served}
 use Rattle.program_corsserve.specs.Connections.{accepts_told}
 use Rattle.program_corsserve.specs.Private.Notes.{IsNoted}
-use Rattle.program_corsserve.proofs.ConnectionLemmas.{noted-one, served-nothing, wrote-none}
+use Rattle.program_corsserve.proofs.ConnectionLemmas.{noted-one, served-nothing}
 use Rattle.program_corsserve.proofs.connections.serve_and_note.Goals as goal
 
 pub returns-in-Ok : goal.returns-in-Ok
@@ -32,6 +33,6 @@ returns-in-Err g c =
           (accepts_told g.A.Accepts.opened g.A.Accepts.coming g.A.Accepts.lent g.A.Accepts.faults
           c.serve_next.new.accepts)
           none.coming_is none.lent_is none.opened_is;
-      took = wrote-none (g.K.Sink.takes c.args.output.now).taken;
+      took = took-nothing (g.K.Sink.takes c.args.output.now).taken;
       cause = none.cause;
     }
