@@ -1,7 +1,7 @@
 -- Traces, one after another, and what they come to.
 use Rattle.std.proofs.Common.{◌≡◌, List, [], ◌∷◌, ◌++◌, Some, IsTrue, refl, ap, sym, subst, ◌∙◌, append_assoc}
 use Rattle.std.proofs.lemmas.List.{append-nil}
-use Rattle.fetch_acts.specs.Process.{Process, ended, act, fits, run}
+use Rattle.fetch_acts.specs.Process.{Process, ended, act, fits}
 use Rattle.fetch_acts.specs.declared.act.Act.{Act}
 use Rattle.value_requests.specs.declared.response.Outcome.{Outcome}
 use Rattle.fetch_acts.specs.declared.act.Input.{Input}
@@ -27,13 +27,6 @@ module _ {World Event : Type 0} (exchange : World → Act → Input → List Eve
   trace-one request first after input a b shown is fit = subst (λ (e : List Event). Trace exchange
       (act request first after) a (input ∷ []) e (after input) b) (append-nil shown)
       (stepped request first after input is fit stop)
-
-  -- the process and its outcome, over the tape of a trace to an end
-  pub trace-run : {p q : Process} {a b : World} {tape : List Input} {events : List Event}
-      → Trace exchange p a tape events q b → (outcome : Outcome) → q ≡ ended outcome
-      → (run p tape).outcome ≡ Some outcome
-  trace-run stop outcome e = rw e refl
-  trace-run (stepped request first after input is fit x) outcome e = rw fit (trace-run x outcome e)
 
   module _ (words : Act → Input → List Event) (exact : (a : World) (first : Act) (input : Input) (shown : List Event)
       (b : World) → exchange a first input shown b → shown ≡ words first input) where

@@ -1,6 +1,6 @@
 -- The request after a redirect is a request.
 use Rattle.std.proofs.Common.{◌≡◌, ◌∙◌, ◌<◌, ◌∷◌, ◌++◌, [], ℕ, Bool, true, false, List}
-use Rattle.std.proofs.Common.{refl, ap, sym, subst, arith, cond, length}
+use Rattle.std.proofs.Common.{refl, sym, subst, arith, cond}
 use Rattle.std.proofs.lemmas.Bool.{and_from, and_parts}
 use Rattle.std.specs.Prelude.{IsTrue, unwrap_or, Some, None}
 use Rattle.std.specs.List.{last_or}
@@ -72,11 +72,6 @@ were_http-and : (urls : List Parts) (url : Parts) → IsTrue (were_http urls)
 were_http-and [] url were last = absurd (grind arith)
 were_http-and (one ∷ urls) url were last = were_http-more one urls url were last
 
--- the URL list of a request is not empty
-pub some_url : (urls : List Parts) → IsTrue (were_http urls) → 0 < length urls
-some_url [] were = absurd (grind arith)
-some_url (one ∷ urls) were = omega arith
-
 pub next_is : (url : Parts) (request last : Request) → IsRequest request → request.redirects < 20 → IsAtHttp request
     → StaysAt request last → IsRequest (at_next url last)
 next_is url request last is few http stays = record {
@@ -87,13 +82,6 @@ next_is url request last is few http stays = record {
 }
 
 -- ---- the steps, one after the other
-
--- the first leaves a URL list that is not empty
-pub first_step : (status : ℕ) (request first : Request) → IsRequest request → first ≡ with_method_after status request
-    → 0 < length first.urls
-first_step status request first is e =
-    let urls = ap (λ (r : Request). r.urls) e ∙ (method_stays status request is).urls in
-    rw urls (some_url request.urls is.urls)
 
 -- all but the last leave what a request has to have
 pub all_stay : (head : Head) (url : Parts) (request first second third : Request) → IsRequest request

@@ -1,9 +1,8 @@
 -- What the clears and the redirects of a level come to, and that a step is what the runs of its process are.
-use Rattle.std.proofs.Common.{◌≡◌, ℕ, zero, suc, Bool, true, false, ◌+◌, ◌-◌, ◌<◌, ◌≤◌, Ok, Err, refl, ap, sym, ◌∙◌}
+use Rattle.std.proofs.Common.{◌≡◌, ℕ, zero, suc, Bool, true, false, ◌+◌, ◌-◌, ◌<◌, Ok, Err, refl, ap, sym, ◌∙◌}
 use Rattle.std.proofs.Common.{arith, cond, inl, inr, length, subst}
-use Rattle.std.proofs.Common.{List, [], ◌∷◌, drop, slice_get, Some, Result, IfOk, IsTrue}
+use Rattle.std.proofs.Common.{List, [], ◌∷◌, Some, Result}
 use Rattle.std.proofs.lemmas.Bool.{cases_Bool, true≢false}
-use Rattle.std.proofs.lemmas.Grind.{common_steps}
 use Rattle.std.specs.Prelude.{◌==◌}
 use Rattle.url.specs.Parts.{Parts}
 use Rattle.fetch_answers.specs.Endings.{ended as ended_with}
@@ -29,17 +28,13 @@ use Rattle.value_requests.specs.declared.client.Client.{Client}
 use Rattle.value_requests.specs.declared.error.NetError.{NetError}
 use Rattle.value_requests.specs.declared.hop.Head.{Head}
 use Rattle.value_requests.specs.declared.request.Request.{Request}
-use Rattle.fetch_acts.specs.declared.act.Act.{Act}
-use Rattle.fetch_acts.specs.declared.act.Input.{Input}
 use Rattle.fetch_acts.specs.declared.act.Act.TheVariants.{Ask}
-use Rattle.fetch_acts.specs.Process.{Process, act, began, fits, followed, run}
-use Rattle.fetch_machine.specs.declared.place.Fetching.{Fetching}
+use Rattle.fetch_acts.specs.Process.{Process, act}
 use Rattle.fetch_machine.specs.declared.place.Step.{Step}
-use Rattle.fetch_machine.specs.declared.place.Step.TheVariants.{Going, Over}
 use Rattle.fetch_machine.specs.declared.place.Level.{Level}
 use Rattle.fetch_machine.specs.Fetch.{again, ends, finished, onward_of}
 use Rattle.fetch_machine.specs.HttpFetch.{answered, judged}
-use Rattle.fetch_machine.specs.Machine.{Does, Leads, RunsAs, at_level, clears, next_of, rest, rest_of}
+use Rattle.fetch_machine.specs.Machine.{Does, Leads, at_level, clears, next_of}
 use Rattle.fetch_machine.specs.MainFetch.{main_fetch, unless_violated}
 use Rattle.fetch_machine.specs.PreflightFetch.{after_covers, names_of, preflight_answered, preflight_judged}
 use Rattle.fetch_machine.specs.PreflightFetch.{with_preflight}
@@ -185,40 +180,3 @@ goes-on context result count made to owing next few is more same leads =
     (subst (λ (n : ℕ). Leads context result (main_fetch (again (20 - n) context) context next to)) more
     (subst (λ (then_ : Then). Leads context result (main_fetch (onward_of context to) context then_ to)) same
     (subst (λ (r : Request). Leads context result (main_fetch (onward_of context r) context owing r)) is leads)))
-
--- no violation is left past the last
-pub drop-past : {X : Type 0} (xs : List X) (i : ℕ) → length xs ≤ i → drop i xs ≡ []
-drop-past [] zero past = refl
-drop-past [] (suc i) past = refl
-drop-past (x ∷ xs) zero past = absurd (omega (arith, past))
-drop-past (x ∷ xs) (suc i) past = drop-past xs i (omega (arith, past))
-
--- what lies at a place of a list begins what is left there
-pub drop-found : {X : Type 0} (xs : List X) (i : ℕ) (x : X) → slice_get xs i ≡ Some x
-    → drop i xs ≡ x ∷ drop (i + 1) xs
-drop-found [] i x found = cc
-drop-found (y ∷ xs) zero x found = grind (arith, common_steps)
-drop-found (y ∷ xs) (suc i) x found = grind (arith, common_steps, drop-found xs i x)
-
--- a step that is what a process does first is what its runs are
-pub does-runs : (context : Context) (step : Step) (process : Process) → Does context step process
-    → RunsAs context step (run process)
-does-runs context (Going fetching first) process does = λ tape.
-    ap (λ (p : Process). run p tape) does.process
-    ∙ ap (λ (a : Act). began first (followed a (λ input. run (rest context fetching input)) tape)) (sym does.last)
-does-runs context (Over outcome) process does = λ tape. ap (λ (p : Process). run p tape) does
-
-pub leads-runs : (context : Context) (result : Result Step OutOfMemory) (process : Process)
-    → Leads context result process → IfOk result (λ step. RunsAs context step (run process))
-leads-runs context (Ok step) process leads = does-runs context step process leads
-leads-runs context (Err refused) process leads = tt
-
--- the same after an input that fits
-pub resumes-runs : (context : Context) (fetching : Fetching) (input : Input) (result : Result Step OutOfMemory)
-    → IsTrue (fits fetching.last.value input) → Leads context result (rest context fetching input)
-    → IfOk result (λ step. RunsAs context step (λ tape. rest_of context fetching (input ∷ tape)))
-resumes-runs context fetching input (Err refused) fit leads = tt
-resumes-runs context fetching input (Ok (Going next first)) fit leads =
-    λ tape. rw fit (does-runs context (Going next first) (rest context fetching input) leads tape)
-resumes-runs context fetching input (Ok (Over outcome)) fit leads =
-    λ tape. rw fit (does-runs context (Over outcome) (rest context fetching input) leads tape)

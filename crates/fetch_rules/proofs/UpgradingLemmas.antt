@@ -1,13 +1,12 @@
 -- What the scheme's setter makes of an http or https URL, and what stays true of a request that is made an https one.
-use Rattle.std.proofs.Common.{◌≡◌, ◌≢◌, ◌∙◌, ◌<◌, ◌^◌, ◌-◌, ◌++◌, ℕ, suc, zero, true, List, [], ◌∷◌, length, take}
-use Rattle.std.proofs.Common.{refl, sym, ap, arith}
-use Rattle.std.specs.Prelude.{codes, IsTrue, IfSome, Option, Some, None, Ok, unwrap_or}
+use Rattle.std.proofs.Common.{◌≡◌, ◌∙◌, ◌-◌, ◌++◌, ℕ, suc, zero, true, List, [], ◌∷◌, length, take}
+use Rattle.std.proofs.Common.{refl, ap, arith}
+use Rattle.std.specs.Prelude.{codes, IsTrue, Option, Some, None, Ok, unwrap_or}
 use Rattle.std.specs.List.{last_or}
 use Rattle.value_requests.proofs.TargetLemmas.{https-kind}
 use Rattle.url.specs.declared.scheme.SchemeType.TheVariants.{SpecialNotFile}
 use Rattle.url.specs.Input.{split_once, strip_tabs_and_new_lines}
-use Rattle.url.specs.Parser.{without_default_port}
-use Rattle.url.specs.Parts.{Parts, IsValid}
+use Rattle.url.specs.Parts.{Parts}
 use Rattle.url.specs.Scheme.{default_port, scheme_len}
 use Rattle.url.specs.Setters as setters
 use Rattle.fetch_rules.specs.Upgrading.{secured, with_https, with_last}
@@ -31,19 +30,6 @@ takes-special url web = rw (web.0, web.1) refl
 -- the scheme is set
 pub scheme-set : (url : Parts) → IsWeb url → setters.set_scheme url (codes "https") ≡ Ok (with_https url)
 scheme-set url web = scheme-read url ∙ rw (https-kind, takes-special url web) refl
-
--- a port that is not the default one stays
-port-kept : (port : Option ℕ) → IfSome port (λ n. (n < 2 ^ 16) × (default_port (codes "https") ≢ Some n))
-    → without_default_port (codes "https") port ≡ port
-port-kept None valid = rw https-port refl
-port-kept (Some n) valid =
-    let other : n ≢ 443 = λ is. valid.1 (https-port ∙ ap Some (sym is)) in
-    rw https-port (grind arith)
-
--- an https URL stays as it is
-pub https-unchanged : (url : Parts) → IsValid url → url.scheme ≡ codes "https" → with_https url ≡ url
-https-unchanged url valid is =
-    λ i. record url { scheme = sym is i; port = port-kept url.port (rw is at valid.head.port) i }
 
 -- ---- the request
 

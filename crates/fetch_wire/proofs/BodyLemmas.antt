@@ -1,8 +1,8 @@
 -- What a reader of a body that is fed a wire's window finds in the bytes that were to come.
-use Rattle.std.proofs.Common.{◌≡◌, ℕ, ◌+◌, ◌-◌, ◌≤◌, ◌<◌, Bool, true, false, List, [], ◌++◌, length, refl, ap, sym}
+use Rattle.std.proofs.Common.{◌≡◌, ℕ, ◌+◌, ◌-◌, ◌≤◌, ◌<◌, Bool, true, false, List, [], ◌++◌, length, ap, sym}
 use Rattle.std.proofs.Common.{◌∷◌}
-use Rattle.std.proofs.Common.{suc, take, inl, inr, subst, ◌∙◌, arith, length-append, Option, nat_le, nat_lt}
-use Rattle.std.specs.Prelude.{unwrap_or, if◌then◌else◌}
+use Rattle.std.proofs.Common.{suc, take, inl, inr, subst, ◌∙◌, arith, length-append, Option, nat_le}
+use Rattle.std.specs.Prelude.{unwrap_or}
 use Rattle.std.proofs.lemmas.Bool.Decides.{leb_tells}
 use Rattle.std.proofs.lemmas.List.{append-nil}
 use Rattle.value_requests.specs.declared.response.BodyEnd.{BodyEnd}
@@ -17,68 +17,11 @@ use Rattle.link_http1.specs.declared.body.BodyStep.TheVariants as bodies
 use Rattle.link_http1.specs.declared.framing.Framing.{Framing}
 use Rattle.link_http1.specs.declared.framing.Framing.TheVariants.{Nothing, Chunked, Length, ToEnd, Broken}
 use Rattle.link_http1.proofs.OpenLemmas.{bodies-short}
-use Rattle.fetch_acts.specs.declared.act.Input.TheVariants.{BodyIs}
-use Rattle.fetch_wire.specs.Exchanges.{Exchange, HasBody, IsBodyRead, IsIdle, LeavesBody, WaitedFor, count_of}
-use Rattle.fetch_wire.specs.Private.Reads.{Gathers, GivesSome, HasAtMost}
+use Rattle.fetch_wire.specs.Exchanges.{HasBody, LeavesBody, WaitedFor, count_of}
+use Rattle.fetch_wire.specs.Private.Reads.{Gathers, HasAtMost}
 use Rattle.fetch_wire.specs.Wires.{onto_left}
 use Rattle.fetch_wire.proofs.WireLemmas.{Receives, come-first, come-all, nothing-left, receives-more}
-use Rattle.fetch_wire.proofs.WireLemmas.{hung-up, uncaused, waited-for}
-
--- ---- the end of an answer is no fault
-
-no-fault : (big complete : Bool) (bytes : List ℕ) (n : ℕ)
-    → (if big then body.TooBig else if complete then body.Whole bytes else body.Cut (length bytes)) ≡ body.Fault n → ⊥
-no-fault true complete bytes n is = cc
-no-fault false true bytes n is = cc
-no-fault false false bytes n is = cc
-
-body-no-fault : (how : Framing) (limit : ℕ) (bytes : List ℕ) (n : ℕ) → body_end how limit bytes ≡ body.Fault n → ⊥
-body-no-fault Nothing limit bytes n is = cc
-body-no-fault Broken limit bytes n is = cc
-body-no-fault ToEnd limit bytes n is = no-fault (nat_lt limit (length bytes)) true bytes n is
-body-no-fault (Length total) limit bytes n is = no-fault _ _ _ n is
-body-no-fault Chunked limit bytes n is =
-    no-fault (nat_lt limit (length (decoded bytes).data_is)) (decoded bytes).complete (decoded bytes).data_is n is
-
--- a body came to its end, and nothing is to come then
-pub body-is-read : {State : Type 0} (limit : ℕ) (old new : Exchange State) (end : BodyEnd) (left : Option (List ℕ))
-    → HasBody old.framing limit old.coming end
-    → GivesSome (IsOpen old.framing limit) old.coming old.left left old.received new.received → IsIdle new
-    → new.state ≡ old.state → new.faults ≡ old.faults → IsBodyRead limit old (BodyIs end) new
-body-is-read limit old new body.Null left has gives idle state same = record {
-  body_is = (has, idle);
-  count = gives.count;
-  waited = gives.waited;
-  gives = hung-up (IsOpen old.framing limit) old new (BodyIs body.Null) left refl gives;
-  state_is = state;
-  caused = uncaused (BodyIs body.Null) old.faults new.faults same refl;
-}
-body-is-read limit old new (body.Whole bytes) left has gives idle state same = record {
-  body_is = (has, idle);
-  count = gives.count;
-  waited = gives.waited;
-  gives = hung-up (IsOpen old.framing limit) old new (BodyIs (body.Whole bytes)) left refl gives;
-  state_is = state;
-  caused = uncaused (BodyIs (body.Whole bytes)) old.faults new.faults same refl;
-}
-body-is-read limit old new (body.Cut n) left has gives idle state same = record {
-  body_is = (has, idle);
-  count = gives.count;
-  waited = gives.waited;
-  gives = hung-up (IsOpen old.framing limit) old new (BodyIs (body.Cut n)) left refl gives;
-  state_is = state;
-  caused = uncaused (BodyIs (body.Cut n)) old.faults new.faults same refl;
-}
-body-is-read limit old new body.TooBig left has gives idle state same = record {
-  body_is = (has, idle);
-  count = gives.count;
-  waited = gives.waited;
-  gives = hung-up (IsOpen old.framing limit) old new (BodyIs body.TooBig) left refl gives;
-  state_is = state;
-  caused = uncaused (BodyIs body.TooBig) old.faults new.faults same refl;
-}
-body-is-read limit old new (body.Fault n) left has gives idle state same =
-    absurd (body-no-fault old.framing limit has.bytes n (sym has.ends))
+use Rattle.fetch_wire.proofs.WireLemmas.{waited-for}
 
 -- ---- a body has no more bytes than its limit
 

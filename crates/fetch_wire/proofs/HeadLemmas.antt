@@ -1,6 +1,6 @@
 -- What a reader of heads that is fed a wire's window finds in the bytes that were to come.
-use Rattle.std.proofs.Common.{◌≡◌, ℕ, ◌+◌, ◌-◌, ◌≤◌, ◌<◌, List, [], ◌++◌, drop, length, inl, inr, refl, ap, sym}
-use Rattle.std.proofs.Common.{subst, ◌∙◌, arith, length-append, Option}
+use Rattle.std.proofs.Common.{◌≡◌, ℕ, ◌+◌, ◌-◌, ◌≤◌, List, [], ◌++◌, drop, length, inl, inr, refl, ap, sym}
+use Rattle.std.proofs.Common.{subst, ◌∙◌, arith, Option}
 use Rattle.std.specs.Prelude.{unwrap_or}
 use Rattle.std.proofs.lemmas.List.{append-nil}
 use Rattle.value_requests.specs.declared.hop.Head.{Head}
@@ -111,12 +111,6 @@ module _ (window : List ℕ) (left : Option (List ℕ)) (read piece now : List �
   head-waits next more count came whole few =
       waited-for IsUnfinished window left read now left' count (count + length more) whole (omega (arith, few)) so_far
       (head-open next came).1
-
-  -- fewer bytes are left to a head than before
-  pub head-nears : (next more : List ℕ) (most : ℕ) → step ≡ heads.More next → length next < most → 0 < length more
-      → most - (length next + length more) < most - (length read + length now)
-  head-nears next more most came few some =
-      omega (arith, ap length (head-open next came).0, length-append read now, few, some)
 
 -- too long a head came, and nothing is to come then
 pub read-long : {State : Type 0} (old new : Exchange State) (it : Found) (window : List ℕ) (left : Option (List ℕ))

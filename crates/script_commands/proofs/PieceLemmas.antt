@@ -20,14 +20,11 @@ onto-with_front front byte (p ∷ ps) =
 
 -- ---- nothing before
 
-put-none : (byte : ℕ) (ps : List (List ℕ)) → onto [] (with_front byte ps) ≡ with_front byte ps
-put-none byte [] = refl
-put-none byte (p ∷ ps) = refl
-
 either-none : (test : Bool) (byte : ℕ) (ps qs : List (List ℕ))
     → onto [] (cond test ([] ∷ ps) (with_front byte qs)) ≡ cond test ([] ∷ ps) (with_front byte qs)
 either-none true byte ps qs = refl
-either-none false byte ps qs = put-none byte qs
+either-none false byte ps [] = refl
+either-none false byte ps (q ∷ qs) = refl
 
 pub onto-none : (text : List ℕ) → onto [] (pieces text) ≡ pieces text
 onto-none [] = refl

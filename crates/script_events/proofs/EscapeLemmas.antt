@@ -1,9 +1,7 @@
 -- How long an escaped text is, and texts of bytes that are written as they are.
-use Rattle.std.proofs.Common.{◌≡◌, ◌∙◌, ◌≤◌, ap, sym, ℕ, ◌+◌, ◌*◌, ◌&&◌, Bool, true}
-use Rattle.std.proofs.Common.{false, List, [], ◌∷◌, ◌++◌, cond, drop, take, length}
-use Rattle.std.proofs.Common.{refl, arith, zero, suc, codes}
-use Rattle.std.proofs.lemmas.List.{take-append-drop}
-use Rattle.std.proofs.lemmas.List.Folds.{list_all-append}
+use Rattle.std.proofs.Common.{◌≡◌, ◌∙◌, ap, ℕ, ◌+◌, ◌*◌, ◌&&◌, Bool, true}
+use Rattle.std.proofs.Common.{false, List, [], ◌∷◌, ◌++◌, cond, length}
+use Rattle.std.proofs.Common.{refl, arith, codes}
 use Rattle.std.proofs.lemmas.List.Concat.{flat_map-append}
 use Rattle.std.specs.Prelude.{not, filter}
 use Rattle.std.specs.List.{list_all}
@@ -56,28 +54,3 @@ escaped_request method url = ap (λ (t : List ℕ). line (codes "  " ++ t))
 
 -- what the lines that are escaped rest on
 pub ruleset escaped_pieces = (escaped_header, escaped_request)
-
--- a test of a front and of what follows it is one of both, and the front may be tested twice
-front-twice : (front rest : Bool) → (front && (front && rest)) ≡ (front && rest)
-front-twice true rest = refl
-front-twice false rest = refl
-
--- a text is plain if its front is, and what is from a place on that the front reaches
-pub plain-ends : (from front : ℕ) (text : List ℕ) → from ≤ front
-    → (list_all is_plain (take front text) && list_all is_plain (drop from text)) ≡ list_all is_plain text
-plain-ends zero front text reaches =
-    let parts = sym (list_all-append is_plain (take front text) (drop front text))
-    ∙ ap (λ (t : List ℕ). list_all is_plain t) (take-append-drop front text) in
-    ap (λ (v : Bool). list_all is_plain (take front text) && v) (sym parts)
-    ∙ front-twice (list_all is_plain (take front text)) (list_all is_plain (drop front text)) ∙ parts
-plain-ends (suc from) zero text reaches = absurd (omega (arith, reaches))
-plain-ends (suc from) (suc front) [] reaches = refl
-plain-ends (suc from) (suc front) (byte ∷ text) reaches =
-    split (is_plain byte) (plain-ends from front text (omega (arith, reaches)))
-  where
-    split : (v : Bool)
-        → (list_all is_plain (take front text) && list_all is_plain (drop from text)) ≡ list_all is_plain text
-        → ((v && list_all is_plain (take front text)) && list_all is_plain (drop from text))
-        ≡ (v && list_all is_plain text)
-    split true more = more
-    split false more = refl

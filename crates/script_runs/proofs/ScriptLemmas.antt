@@ -1,6 +1,7 @@
 -- What holds of each fetch and each load of a run holds of the whole script.
-use Rattle.std.proofs.Common.{◌≡◌, ℕ, zero, suc, Bool, true, false, cond, [], ◌∷◌, List, Option, Some, None, refl}
-use Rattle.std.proofs.Common.{Result, Ok, Err}
+use Rattle.std.proofs.Common.{◌≡◌, ◌<◌, ℕ, zero, suc, Bool, true, false, cond, [], ◌∷◌, List, Option, Some, None, refl}
+use Rattle.std.proofs.Common.{Result, Ok, Err, arith}
+use Rattle.std.specs.Prelude.{if◌then◌else◌, nat_le}
 use Rattle.value_requests.specs.declared.client.Client.{Client}
 use Rattle.value_requests.specs.declared.client.Cookie.{Cookie}
 use Rattle.value_requests.specs.declared.fault.TypeFault.{TypeFault}
@@ -16,7 +17,7 @@ use Rattle.script_commands.specs.Scripts as script
 use Rattle.script_commands.specs.declared.command.Test.{Test}
 use Rattle.script_scenarios.specs.declared.document.Document.{Document}
 use Rattle.script_events.specs.declared.events.Ending.{Ending}
-use Rattle.script_events.specs.declared.events.Ending.TheVariants.{Finished}
+use Rattle.script_events.specs.declared.events.Ending.TheVariants.{Commands, Finished}
 use Rattle.script_events.specs.declared.events.Event.{Event}
 use Rattle.fetch_machine.specs.Fetch.{fetch}
 use Rattle.script_runs.specs.Play.{Play, over, emit}
@@ -25,8 +26,8 @@ use Rattle.script_runs.specs.Runs.{Next, Progress, Setting, after_events, asked,
 use Rattle.script_runs.specs.Runs.{command_run}
 use Rattle.script_filling.specs.Filled.{filled_init, filled_load}
 use Rattle.script_runs.specs.Runs.{document_run, embed, fault_event, fetch_started, fetched}
-use Rattle.script_runs.specs.Runs.{finished, last_of, limit_before, outcome_event, repeated, script_run, setting_of}
-use Rattle.script_runs.specs.Runs.{showing, start_event, started, unless_limit, waited}
+use Rattle.script_runs.specs.Runs.{finished, last_of, limit_before, most_commands, outcome_event, own_limit, repeated}
+use Rattle.script_runs.specs.Runs.{script_run, setting_of, showing, start_event, started, unless_limit, waited}
 
 -- ---- what a script asks for
 
@@ -49,6 +50,16 @@ abbrev mutual
   pub AllWaits : (ℕ → Type 0) → Steps → Type 0
   AllWaits Waits script.no_steps = Unit {0}
   AllWaits Waits (script.step one more) = WaitsOfStep Waits one × AllWaits Waits more
+
+-- while a command may start, fewer have started than a run may have
+pub limit_before-none : (one : Step) (progress : Progress) → limit_before one progress ≡ None
+    → progress.commands < most_commands
+limit_before-none one progress none = by (nat_le most_commands progress.commands) refl none
+  where
+    by : (most : Bool) → nat_le most_commands progress.commands ≡ most
+        → (if most then Some Commands else own_limit one progress) ≡ None → progress.commands < most_commands
+    by true is without = absurd (cc)
+    by false is without = grind (arith, is)
 
 -- What holds of how far a run has come, and of a command that has started.
 pub record Bounds (Stands Begun : Progress → Type 0) (Waits : ℕ → Type 0) : Type 0 where

@@ -1,7 +1,8 @@
 use Rattle.std.proofs.Common.{ap}
+use Rattle.value_lemmas.proofs.Lists.{drop-slice_get}
 use Rattle.fetch_machine.specs.Fetch.{ends}
 use Rattle.fetch_machine.specs.Then.{tell_all}
-use Rattle.fetch_machine.proofs.MachineLemmas.{does-same, drop-found}
+use Rattle.fetch_machine.proofs.MachineLemmas.{does-same}
 use Rattle.fetch_machine.proofs.steps.tell_at_end.Goals as goal
 
 pub returns : goal.returns
@@ -9,5 +10,5 @@ returns c =
     let context = c.args.context.now in
     does-same context c.going.result _ _
     (ap (λ left. tell_all c.args.level.request.value left (ends c.args.level.request.value c.args.ended))
-    (drop-found c.args.violations c.args.at c.at.result.now c.at.ensures))
+    (drop-slice_get c.args.violations c.args.at c.at.result.now c.at.ensures))
     (rw (c.in_ok-kept.ensures, c.in_ok-violation.ensures) at c.going.ensures)
