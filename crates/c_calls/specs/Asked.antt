@@ -1,17 +1,10 @@
 -- What the calls that make a request tell, and what the handle holds after them.
 use Rattle.std.specs.Prelude.{◌≡◌, ℕ, Option, Some, None, option_and_then}
-use Rattle.value_text.specs.Texts.{Text}
-use Rattle.c_fetch.specs.Asked.{Change, chosen, header_added, load_of, text_set}
-use Rattle.c_fetch.specs.declared.asked.Asked.{Asked}
-use Rattle.c_fetch.specs.declared.asked.Choice.{Choice}
-use Rattle.c_fetch.specs.declared.asked.Words.{Words}
+use Rattle.c_handle.specs.declared.thing.Thing.TheVariants as thing
+use Rattle.c_calls.specs.Terms.{Asked, Change, Choice, NO_SUCH_NUMBER, OK, Text, Thing, Words, chosen, header_added}
+use Rattle.c_calls.specs.Terms.{held_request, load_of, text_set, yes_or_no}
 use Rattle.c_calls.specs.Calls.{Done, done, done_by}
 use Rattle.c_calls.specs.Choices.{load_numbered}
-use Rattle.c_handle.specs.Codes.{yes_or_no}
-use Rattle.c_handle.specs.declared.codes.TheConstants.{NO_SUCH_NUMBER, OK}
-use Rattle.c_handle.specs.Things.{held_request}
-use Rattle.c_handle.specs.declared.thing.Thing.{Thing}
-use Rattle.c_handle.specs.declared.thing.Thing.TheVariants as thing
 
 -- the handle holds the load, or is empty
 abbrev pub IsLoadOf : Option Asked → ℕ → Option Thing → Type 0

@@ -1,19 +1,9 @@
 -- What each call that is given a handle tells, and what the handle holds after it.
 use Rattle.std.specs.Prelude.{ℕ, Bool, List, Option, Some, None, Result, Ok, Err}
-use Rattle.value_text.specs.Texts.{Text}
-use Rattle.book_calls.specs.declared.book.Book.{Book}
-use Rattle.value_headers.specs.Headers.{combined}
-use Rattle.value_headers.specs.declared.headers.Header.{Header}
-use Rattle.policy_checks.specs.CorsCheck.{passes_cors_check}
-use Rattle.c_rules.specs.Cors.{is_kept_by_resource_policy}
-use Rattle.c_rules.specs.Headers.{appending}
-use Rattle.c_rules.specs.Hosts.{after_field, is_known_host, says}
-use Rattle.c_rules.specs.declared.refusal.Refusal.{Refusal}
-use Rattle.c_handle.specs.Codes.{code_of, told, yes_or_no}
-use Rattle.c_handle.specs.Things.{code_by, held_book, held_headers, TextBy}
-use Rattle.c_handle.specs.declared.codes.TheConstants.{OK, WRONG_HANDLE}
-use Rattle.c_handle.specs.declared.thing.Thing.{Thing}
 use Rattle.c_handle.specs.declared.thing.Thing.TheVariants as thing
+use Rattle.c_calls.specs.Terms.{Book, Header, OK, Refusal, Text, TextBy, Thing, WRONG_HANDLE, after_field, appending}
+use Rattle.c_calls.specs.Terms.{code_by, code_of, combined, held_book, held_headers, is_kept_by_resource_policy}
+use Rattle.c_calls.specs.Terms.{is_known_host, passes_cors_check, says, told, yes_or_no}
 
 -- what a call tells, and what the handle holds then
 pub record Done : Type 0 where

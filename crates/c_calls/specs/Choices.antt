@@ -1,19 +1,13 @@
 -- The choices of a request by their numbers, and its texts.
 use Rattle.std.specs.Prelude.{ℕ, ◌==◌, Bool, true, false, Option, Some, None, option_map, if◌then◌else◌}
-use Rattle.value_requests.specs.declared.init.CrossOrigin.{CrossOrigin}
 use Rattle.value_requests.specs.declared.init.CrossOrigin.TheVariants as crossorigin
-use Rattle.value_requests.specs.declared.mode.Credentials.{Credentials}
 use Rattle.value_requests.specs.declared.mode.Credentials.TheVariants as credentials
-use Rattle.value_requests.specs.declared.mode.Mode.{Mode}
 use Rattle.value_requests.specs.declared.mode.Mode.TheVariants as mode
-use Rattle.value_requests.specs.declared.mode.RedirectMode.{RedirectMode}
 use Rattle.value_requests.specs.declared.mode.RedirectMode.TheVariants as redirect
-use Rattle.value_requests.specs.declared.policy.Destination.{Destination}
 use Rattle.value_requests.specs.declared.policy.Destination.TheVariants as destination
-use Rattle.c_fetch.specs.declared.asked.Choice.{Choice}
 use Rattle.c_fetch.specs.declared.asked.Choice.TheVariants as choice
-use Rattle.c_fetch.specs.declared.asked.Words.{Words}
 use Rattle.c_fetch.specs.declared.asked.Words.TheVariants as words
+use Rattle.c_calls.specs.Terms.{Choice, Credentials, CrossOrigin, Destination, Mode, RedirectMode, Words}
 use Rattle.c_calls.specs.Referrers.{policy_numbered}
 
 -- the mode of a number

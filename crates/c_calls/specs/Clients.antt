@@ -1,17 +1,10 @@
 -- What the calls that make a client tell, and what the handle holds after them.
 use Rattle.std.specs.Prelude.{◌≡◌, ℕ, Bool, Option, Some, None, Result, Ok, Err}
-use Rattle.value_text.specs.Texts.{Text}
-use Rattle.c_rules.specs.declared.refusal.Refusal.{Refusal}
-use Rattle.value_requests.specs.declared.mode.ReferrerPolicy.{ReferrerPolicy}
-use Rattle.c_fetch.specs.Settings.{cookie_added, settings_of, with_policies}
-use Rattle.c_fetch.specs.Setups.{Setup}
-use Rattle.c_calls.specs.Calls.{Done, done, done_by}
-use Rattle.c_handle.specs.Codes.{code_of}
-use Rattle.c_calls.specs.Referrers.{policy_numbered}
-use Rattle.c_handle.specs.declared.codes.TheConstants.{NO_SUCH_NUMBER, OK}
-use Rattle.c_handle.specs.Things.{held_client}
-use Rattle.c_handle.specs.declared.thing.Thing.{Thing}
 use Rattle.c_handle.specs.declared.thing.Thing.TheVariants as thing
+use Rattle.c_calls.specs.Terms.{NO_SUCH_NUMBER, OK, ReferrerPolicy, Refusal, Setup, Text, Thing, code_of, cookie_added}
+use Rattle.c_calls.specs.Terms.{held_client, settings_of, with_policies}
+use Rattle.c_calls.specs.Calls.{Done, done, done_by}
+use Rattle.c_calls.specs.Referrers.{policy_numbered}
 
 -- the handle holds the client, or is empty
 abbrev pub IsClientOf : Result Setup Refusal → ℕ → Option Thing → Type 0

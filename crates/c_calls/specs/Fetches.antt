@@ -1,29 +1,11 @@
 -- What the calls that begin a fetch, and ask what it does, tell.
 use Rattle.std.specs.Prelude.{◌≡◌, ℕ, ◌^◌, Bool, true, false, nat_lt, Option, Some, None, Result, Ok, Err}
-use Rattle.value_text.specs.Texts.{Text}
-use Rattle.fetch_acts.specs.declared.act.Act.{Act}
 use Rattle.fetch_acts.specs.declared.act.Act.TheVariants as act
-use Rattle.fetch_session.specs.Sessions.{act_of, outcome_of, standing_of}
-use Rattle.fetch_session.specs.Standings.{Standing}
-use Rattle.fetch_session.specs.declared.session.Session.{Session}
-use Rattle.c_rules.specs.declared.refusal.Refusal.{Refusal}
-use Rattle.value_requests.specs.Errors.{fault_number}
-use Rattle.value_requests.specs.declared.fault.TypeFault.{TypeFault}
-use Rattle.value_requests.specs.declared.fault.TypeFault.TheVariants.{BadHeader}
-use Rattle.value_requests.specs.declared.response.Outcome.{Outcome}
-use Rattle.c_fetch.specs.Amounts.{amount_of}
-use Rattle.c_fetch.specs.Beginning.{begun_as}
-use Rattle.c_fetch.specs.Parts.{request_of, text_of}
-use Rattle.c_fetch.specs.declared.amounts.Amount.{Amount}
-use Rattle.c_fetch.specs.declared.asked.Asked.{Asked}
-use Rattle.c_fetch.specs.declared.parts.Part.{Part}
-use Rattle.c_fetch.specs.Setups.{Setup}
-use Rattle.c_handle.specs.Codes.{IsKept, IsTextTold}
-use Rattle.c_handle.specs.Things.{both, held_client, held_fetch, held_request, IsNotHeld, TextBy}
-use Rattle.c_handle.specs.declared.codes.TheConstants.{NO, NO_REQUEST, NO_SUCH_NUMBER, OK}
-use Rattle.c_handle.specs.declared.codes.TheConstants.{TOO_LATE, WRONG_HANDLE}
-use Rattle.c_handle.specs.declared.thing.Thing.{Thing}
 use Rattle.c_handle.specs.declared.thing.Thing.TheVariants as thing
+use Rattle.c_calls.specs.Terms.{Act, Amount, Asked, BadHeader, IsKept, IsNotHeld, IsTextTold, NO, NO_REQUEST}
+use Rattle.c_calls.specs.Terms.{NO_SUCH_NUMBER, OK, Outcome, Part, Refusal, Session, Setup, Standing, TOO_LATE, Text}
+use Rattle.c_calls.specs.Terms.{TextBy, Thing, TypeFault, WRONG_HANDLE, act_of, amount_of, begun_as, both, fault_number}
+use Rattle.c_calls.specs.Terms.{held_client, held_fetch, held_request, outcome_of, request_of, standing_of, text_of}
 
 -- ---- the beginning
 

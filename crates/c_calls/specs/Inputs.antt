@@ -1,24 +1,13 @@
 -- What the calls tell that bring a fetch what came of its acts, and where it stands after them.
 use Rattle.std.specs.Prelude.{◌≡◌, ℕ, ◌==◌, Option, Some, None, if◌then◌else◌}
-use Rattle.value_text.specs.Texts.{Text}
 use Rattle.fetch_acts.specs.declared.act.Input.TheVariants as input
-use Rattle.book_calls.specs.declared.book.Book.{Book}
-use Rattle.book_calls.specs.declared.op.Reply.{Reply}
-use Rattle.book_calls.specs.declared.op.Reply.TheVariants.{Yes, No, Done}
-use Rattle.fetch_session.specs.Asking.{Asks, BookAfter, reply_told}
-use Rattle.fetch_session.specs.Feeding.{Ends, Fails, Fed}
-use Rattle.fetch_session.specs.Sessions.{Takes, act_of, standing_of}
-use Rattle.fetch_session.specs.Standings.{Standing}
-use Rattle.fetch_session.specs.declared.session.Session.{Session}
-use Rattle.fetch_session.specs.declared.session.Went.{Went}
 use Rattle.fetch_session.specs.declared.session.Went.TheVariants as went
-use Rattle.c_handle.specs.declared.codes.TheConstants.{NO_SUCH_NUMBER, NOT_AWAITED, OK}
-use Rattle.c_handle.specs.declared.codes.TheConstants.{OUT_OF_MEMORY, WRONG_HANDLE}
+use Rattle.c_handle.specs.declared.thing.Thing.TheVariants as thing
+use Rattle.c_calls.specs.Terms.{Asks, Book, BookAfter, Done, Ends, Fails, Fed, NOT_AWAITED, NO_SUCH_NUMBER, No, OK}
+use Rattle.c_calls.specs.Terms.{OUT_OF_MEMORY, Reply, Session, Standing, Takes, Text, Thing, WRONG_HANDLE, Went, Yes}
+use Rattle.c_calls.specs.Terms.{act_of, both, held_book, held_fetch, reply_told, standing_of}
 use Rattle.c_calls.specs.declared.inputs.Said.{Said}
 use Rattle.c_calls.specs.declared.inputs.Said.TheVariants as said
-use Rattle.c_handle.specs.Things.{both, held_book, held_fetch}
-use Rattle.c_handle.specs.declared.thing.Thing.{Thing}
-use Rattle.c_handle.specs.declared.thing.Thing.TheVariants as thing
 
 -- ---- how a call went
 

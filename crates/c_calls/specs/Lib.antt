@@ -8,3 +8,4 @@ pub mod Inputs
 pub mod Parts
 pub mod Referrers
 pub mod Sts
+pub mod Terms

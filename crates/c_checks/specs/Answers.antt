@@ -1,17 +1,8 @@
 -- What a page sees of an answer, and which answers are blocked for their MIME type.
 use Rattle.std.specs.Prelude.{Bool, false, List, Result, Ok}
-use Rattle.fetch_rules.specs.Switch.{with_tainting}
 use Rattle.policy_filter.specs.Blocks as blocks
-use Rattle.policy_filter.specs.Filtered.{filtered}
-use Rattle.value_headers.specs.declared.headers.Header.{Header}
-use Rattle.value_requests.specs.declared.hop.Head.{Head}
-use Rattle.value_requests.specs.declared.mode.Tainting.{Tainting}
-use Rattle.value_requests.specs.declared.response.Response.{Response}
-use Rattle.c_fetch.specs.Asked.{destination_of}
-use Rattle.c_fetch.specs.Setups.{Setup}
-use Rattle.c_fetch.specs.declared.asked.Asked.{Asked}
-use Rattle.c_rules.specs.Answers.{and_then}
-use Rattle.c_rules.specs.declared.refusal.Refusal.{Refusal}
+use Rattle.c_checks.specs.Words.{Asked, Head, Header, Refusal, Response, Setup, Tainting, and_then, destination_of}
+use Rattle.c_checks.specs.Words.{filtered, with_tainting}
 use Rattle.c_checks.specs.Requested.{request_of}
 
 -- the filtered response of a head, to the request of what is asked for with a response tainting

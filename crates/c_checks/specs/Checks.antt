@@ -1,16 +1,7 @@
 -- Mixed content and policies: what is asked of a request before it is sent.
 use Rattle.std.specs.Prelude.{Bool, true, false, List, Result, Ok}
-use Rattle.value_text.specs.Texts.{Text}
-use Rattle.policy_csp.specs.Violations.{request_violations, response_violations}
-use Rattle.policy_csp_text.specs.declared.policy.Policy.{Policy}
-use Rattle.policy_mixed.specs.Mixed.{is_blocked, is_upgraded}
-use Rattle.value_requests.specs.declared.client.Client.{Client}
-use Rattle.value_requests.specs.declared.policy.Violation.{Violation}
-use Rattle.value_requests.specs.declared.request.Request.{Request}
-use Rattle.c_fetch.specs.Setups.{Setup}
-use Rattle.c_fetch.specs.declared.asked.Asked.{Asked}
-use Rattle.c_rules.specs.Answers.{and_then}
-use Rattle.c_rules.specs.declared.refusal.Refusal.{Refusal}
+use Rattle.c_checks.specs.Words.{Asked, Client, Policy, Refusal, Request, Setup, Text, Violation, and_then, is_blocked}
+use Rattle.c_checks.specs.Words.{is_upgraded, request_violations, response_violations}
 use Rattle.c_checks.specs.Requested.{request_at}
 use Rattle.c_checks.specs.declared.checks.Check.{Check}
 use Rattle.c_checks.specs.declared.checks.Check.TheVariants.{Enforced, ReportOnly, Response}

@@ -3,3 +3,4 @@ pub mod Checks
 pub mod Policies
 pub mod Preflights
 pub mod Requested
+pub mod Words

@@ -1,28 +1,9 @@
 -- The preflight of a request, and the verdict on its answer.
 use Rattle.std.specs.Prelude.{Option, Some, None, option_map, Result, Ok, Err, if◌then◌else◌}
-use Rattle.value_text.specs.Texts.{Text}
-use Rattle.policy_preflight.specs.Preflight.{preflight_of}
-use Rattle.policy_preflight.specs.Verdict.{verdict}
-use Rattle.policy_preflight.specs.declared.answer.Checked.{Checked}
-use Rattle.policy_preflight.specs.declared.answer.Checked.TheVariants.{Refused}
-use Rattle.fetch_rules.specs.Referrers.{with_referrer}
-use Rattle.fetch_rules.specs.Switch.{switch_of}
-use Rattle.fetch_rules.specs.declared.switch.Switch.{Switch}
-use Rattle.fetch_rules.specs.declared.switch.Switch.TheVariants.{Preflights}
-use Rattle.link_http1.specs.Requests.{request_bytes}
-use Rattle.policy_safelist.specs.UnsafeNames.{unsafe_names}
-use Rattle.value_requests.specs.Requests.{current_url, is_http_url}
-use Rattle.policy_checks.specs.RequestOrigins.{serialized_request_origin}
-use Rattle.value_requests.specs.declared.client.Client.{Client}
-use Rattle.value_requests.specs.declared.error.NetError.TheVariants.{PreflightHeader}
-use Rattle.value_requests.specs.declared.hop.Head.{Head}
-use Rattle.value_requests.specs.declared.hop.Hop.{Hop}
-use Rattle.value_requests.specs.declared.request.Request.{Request}
-use Rattle.c_fetch.specs.Setups.{Setup}
-use Rattle.c_fetch.specs.declared.asked.Asked.{Asked}
-use Rattle.c_rules.specs.Answers.{and_then}
-use Rattle.c_rules.specs.declared.refusal.Refusal.{Refusal}
-use Rattle.c_rules.specs.declared.refusal.Refusal.TheVariants.{NotHttp}
+use Rattle.c_checks.specs.Words.{Asked, Checked, Client, Head, Hop, NotHttp, PreflightHeader, Preflights, Refusal}
+use Rattle.c_checks.specs.Words.{Refused, Request, Setup, Switch, Text, and_then, current_url, is_http_url}
+use Rattle.c_checks.specs.Words.{preflight_of, request_bytes, serialized_request_origin, switch_of, unsafe_names}
+use Rattle.c_checks.specs.Words.{verdict, with_referrer}
 use Rattle.c_checks.specs.Requested.{request_of}
 
 -- the preflight of a request with its referrer, where main fetch sends one

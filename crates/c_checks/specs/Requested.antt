@@ -1,19 +1,7 @@
 -- The request that rules look at: what a client asks for, and perhaps after a redirect.
 use Rattle.std.specs.Prelude.{◌==◌, ◌&&◌, [], length, nat_lt, Result, Ok, Err, if◌then◌else◌}
-use Rattle.url.specs.Parts.{Parts}
-use Rattle.value_text.specs.Texts.{Text}
-use Rattle.fetch_answers.specs.Following.{redirected_request}
-use Rattle.value_requests.specs.Requests.{current_url, is_http_url, most_redirects}
-use Rattle.value_requests.specs.declared.fault.TypeFault.{TypeFault}
-use Rattle.value_requests.specs.declared.hop.Head.{Head}
-use Rattle.value_requests.specs.declared.request.Request.{Request}
-use Rattle.c_fetch.specs.Beginning.{request_for}
-use Rattle.c_fetch.specs.Setups.{Setup}
-use Rattle.c_fetch.specs.declared.asked.Asked.{Asked}
-use Rattle.c_rules.specs.Answers.{and_then}
-use Rattle.c_rules.specs.Reading.{web_url_in}
-use Rattle.c_rules.specs.declared.refusal.Refusal.{Refusal}
-use Rattle.c_rules.specs.declared.refusal.Refusal.TheVariants.{NoRequest}
+use Rattle.c_checks.specs.Words.{Asked, Head, NoRequest, Parts, Refusal, Request, Setup, Text, TypeFault, and_then}
+use Rattle.c_checks.specs.Words.{current_url, is_http_url, most_redirects, redirected_request, request_for, web_url_in}
 
 -- a request, or none
 abbrev pub request_or_refusal : Result Request TypeFault → Result Request Refusal

@@ -1,23 +1,9 @@
 -- What an act or an outcome has, by numbers.
 use Rattle.std.specs.Prelude.{ℕ, Bool, length, Option, Some, None, if◌then◌else◌}
-use Rattle.fetch_acts.specs.declared.act.Act.{Act}
-use Rattle.fetch_acts.specs.declared.act.Act.TheVariants.{Ask, Send, ReadHead, ReadBody, Tell}
-use Rattle.book_calls.specs.Ops.{time_of}
-use Rattle.book_calls.specs.declared.op.Op.{Op}
-use Rattle.book_calls.specs.declared.op.Op.TheVariants.{Match, Note, Covers, Learn, Clear}
-use Rattle.book_hosts.specs.declared.sts.Sts.{Sts}
-use Rattle.book_preflights.specs.declared.question.Lesson.{Lesson}
-use Rattle.book_preflights.specs.declared.question.Question.{Question}
-use Rattle.fetch_session.specs.Sessions.{act_of, outcome_of}
-use Rattle.fetch_session.specs.Standings.{Standing}
-use Rattle.value_requests.specs.Errors.{error_number}
-use Rattle.value_requests.specs.declared.hop.Hop.{Hop}
-use Rattle.value_requests.specs.declared.policy.Violation.{Violation}
-use Rattle.value_requests.specs.declared.response.BodyEnd.{BodyEnd}
 use Rattle.value_requests.specs.declared.response.BodyEnd.TheVariants as end
-use Rattle.value_requests.specs.declared.response.Outcome.{Outcome}
-use Rattle.value_requests.specs.declared.response.Outcome.TheVariants.{Answer, Loaded, Error}
-use Rattle.value_requests.specs.declared.response.Response.{Response}
+use Rattle.c_fetch.specs.Terms.{Act, Answer, Ask, BodyEnd, Clear, Covers, Error, Hop, Learn, Lesson, Loaded, Match}
+use Rattle.c_fetch.specs.Terms.{Note, Op, Outcome, Question, ReadBody, ReadHead, Response, Send, Standing, Sts, Tell}
+use Rattle.c_fetch.specs.Terms.{Violation, act_of, error_number, outcome_of, time_of}
 use Rattle.c_fetch.specs.declared.amounts.Amount.{Amount}
 use Rattle.c_fetch.specs.declared.amounts.Amount.TheVariants as amount
 

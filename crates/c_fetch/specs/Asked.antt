@@ -1,16 +1,8 @@
 -- What is asked for, of texts and choices.
 use Rattle.std.specs.Prelude.{Bool, true, false, [], ◌∷◌, ◌++◌, Option, Some, None, option_map}
-use Rattle.value_text.specs.Texts.{Text}
-use Rattle.value_text.specs.Trims.{http_whitespace, trimmed}
-use Rattle.value_requests.specs.declared.init.CrossOrigin.TheVariants.{Absent}
-use Rattle.value_requests.specs.declared.init.Init.{Init}
-use Rattle.value_requests.specs.declared.init.LoadInit.{LoadInit}
-use Rattle.value_requests.specs.declared.mode.Credentials.TheVariants.{SameOrigin}
-use Rattle.value_requests.specs.declared.mode.Mode.TheVariants.{Cors}
-use Rattle.value_requests.specs.declared.mode.RedirectMode.TheVariants.{Follow}
-use Rattle.value_requests.specs.declared.mode.ReferrerPolicy.TheVariants.{Empty}
-use Rattle.value_requests.specs.declared.policy.Destination.{Destination}
 use Rattle.value_requests.specs.declared.policy.Destination.TheVariants as destination
+use Rattle.c_fetch.specs.Terms.{Absent, Cors, Destination, Empty, Follow, Init, LoadInit, SameOrigin, Text}
+use Rattle.c_fetch.specs.Terms.{http_whitespace, trimmed}
 use Rattle.c_fetch.specs.declared.asked.Asked.{Asked}
 use Rattle.c_fetch.specs.declared.asked.Asked.TheVariants.{Fetch, Load}
 use Rattle.c_fetch.specs.declared.asked.Choice.{Choice}

@@ -1,15 +1,7 @@
 -- The fetch of what is asked for, or why there is none.
 use Rattle.std.specs.Prelude.{◌≡◌, ℕ, Option, Some, None, Result, Ok, Err}
-use Rattle.fetch_machine.specs.Fetch.{fetch}
-use Rattle.link_http1.specs.declared.framing.Framing.TheVariants.{Nothing}
-use Rattle.fetch_machine.specs.Then.{Context, context_of}
-use Rattle.fetch_session.specs.Sessions.{standing_of}
-use Rattle.fetch_session.specs.Standings.{Standing, begun}
-use Rattle.fetch_session.specs.declared.session.Session.{Session}
-use Rattle.fetch_requests.specs.Loading.{new_load}
-use Rattle.fetch_requests.specs.Making.{new_request}
-use Rattle.value_requests.specs.declared.fault.TypeFault.{TypeFault}
-use Rattle.value_requests.specs.declared.request.Request.{Request}
+use Rattle.c_fetch.specs.Terms.{Context, Nothing, Request, Session, Standing, TypeFault, begun, context_of, fetch}
+use Rattle.c_fetch.specs.Terms.{new_load, new_request, standing_of}
 use Rattle.c_fetch.specs.Settings.{policies_in}
 use Rattle.c_fetch.specs.Setups.{Setup}
 use Rattle.c_fetch.specs.declared.asked.Asked.{Asked}

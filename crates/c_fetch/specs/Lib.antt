@@ -4,3 +4,4 @@ pub mod Asked
 pub mod Beginning
 pub mod Parts
 pub mod Amounts
+pub mod Terms

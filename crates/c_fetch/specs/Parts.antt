@@ -1,27 +1,10 @@
 -- What an act or an outcome has, by parts.
 use Rattle.std.specs.Prelude.{ℕ, List, slice_get, Option, Some, None, option_and_then}
-use Rattle.value_text.specs.Texts.{Text}
-use Rattle.fetch_acts.specs.declared.act.Act.{Act}
-use Rattle.fetch_acts.specs.declared.act.Act.TheVariants.{Ask, Send, ReadHead, ReadBody, Tell}
-use Rattle.book_calls.specs.declared.op.Op.{Op}
-use Rattle.book_calls.specs.declared.op.Op.TheVariants.{Match, Note, Covers, Learn, Clear}
-use Rattle.value_headers.specs.declared.headers.Header.{Header}
-use Rattle.link_http1.specs.Requests.{request_bytes}
-use Rattle.book_preflights.specs.declared.question.Lesson.{Lesson}
-use Rattle.book_preflights.specs.declared.question.Question.{Question}
-use Rattle.fetch_session.specs.Sessions.{act_of, outcome_of}
-use Rattle.fetch_session.specs.Standings.{Standing}
-use Rattle.value_requests.specs.Errors.{error_name}
-use Rattle.value_requests.specs.Names.{directive_name, kind_name}
-use Rattle.value_requests.specs.declared.error.NetError.{NetError}
-use Rattle.value_requests.specs.declared.error.NetError.TheVariants.{PreflightHeader}
-use Rattle.value_requests.specs.declared.hop.Hop.{Hop}
-use Rattle.value_requests.specs.declared.policy.Violation.{Violation}
-use Rattle.value_requests.specs.declared.response.BodyEnd.{BodyEnd}
 use Rattle.value_requests.specs.declared.response.BodyEnd.TheVariants as end
-use Rattle.value_requests.specs.declared.response.Outcome.{Outcome}
-use Rattle.value_requests.specs.declared.response.Outcome.TheVariants.{Answer, Loaded, Error}
-use Rattle.value_requests.specs.declared.response.Response.{Response}
+use Rattle.c_fetch.specs.Terms.{Act, Answer, Ask, BodyEnd, Clear, Covers, Error, Header, Hop, Learn, Lesson, Loaded}
+use Rattle.c_fetch.specs.Terms.{Match, NetError, Note, Op, Outcome, PreflightHeader, Question, ReadBody, ReadHead}
+use Rattle.c_fetch.specs.Terms.{Response, Send, Standing, Tell, Text, Violation, act_of, directive_name, error_name}
+use Rattle.c_fetch.specs.Terms.{kind_name, outcome_of, request_bytes}
 use Rattle.c_fetch.specs.declared.parts.Part.{Part}
 use Rattle.c_fetch.specs.declared.parts.Part.TheVariants as part
 

@@ -1,19 +1,7 @@
 -- The settings of a document that fetches, of texts.
 use Rattle.std.specs.Prelude.{◌≡◌, Bool, List, [], ◌∷◌, ◌++◌, Result, Ok, Err, if◌then◌else◌}
-use Rattle.std.specs.List.{flat_map}
-use Rattle.policy_csp_text.specs.Policies.{policies_of}
-use Rattle.policy_csp_text.specs.declared.policy.Policy.{Policy}
-use Rattle.fetch_session.specs.declared.document.Document.{Document}
-use Rattle.value_text.specs.Texts.{Text}
-use Rattle.value_text.specs.Values.{is_header_value}
-use Rattle.c_rules.specs.Answers.{and_then}
-use Rattle.c_rules.specs.Origins.{origin_text}
-use Rattle.c_rules.specs.Reading.{web_url_in}
-use Rattle.c_rules.specs.Referrers.{policy_in_force}
-use Rattle.c_rules.specs.declared.refusal.Refusal.{Refusal}
-use Rattle.c_rules.specs.declared.refusal.Refusal.TheVariants.{NotHeader}
-use Rattle.value_requests.specs.Clients.{client_of}
-use Rattle.value_requests.specs.declared.mode.ReferrerPolicy.{ReferrerPolicy}
+use Rattle.c_fetch.specs.Terms.{Document, NotHeader, Policy, ReferrerPolicy, Refusal, Text, and_then, client_of}
+use Rattle.c_fetch.specs.Terms.{flat_map, is_header_value, origin_text, policies_of, policy_in_force, web_url_in}
 use Rattle.c_fetch.specs.Setups.{Setup}
 use Rattle.c_fetch.specs.declared.policy_value.PolicyValue.{PolicyValue}
 

@@ -1,19 +1,15 @@
 -- What is lent of a handle: it ends with the last value behind the reference, or as it was where nothing is lent.
 use Rattle.std.specs.Prelude.{List, Option, Some}
-use Rattle.std.specs.Borrow.{LendsIf, MutBor, Fml}
-use Rattle.c_fetch.specs.Setups.{Setup}
 use Rattle.c_fetch.specs.contracts.asked.Asked as asked
 use Rattle.c_fetch.specs.contracts.settings.Settings as settings
 use Rattle.c_fetch.specs.declared.asked.Asked as declared_request
 use Rattle.book_calls.specs.contracts.book.Book as book
 use Rattle.book_calls.specs.declared.book.Book as declared
 use Rattle.policy_csp.specs.contracts.compiled.Compiled as compiled
-use Rattle.policy_csp_text.specs.declared.policy.Policy.{Policy}
 use Rattle.fetch_session.specs.contracts.session.Session as session
 use Rattle.fetch_session.specs.declared.session.Session as declared_fetch
 use Rattle.value_headers.specs.contracts.headers.HeaderList as headers
-use Rattle.value_headers.specs.declared.headers.Header.{Header}
-use Rattle.value_requests.specs.declared.policy.Violation.{Violation}
+use Rattle.c_handle.specs.Words.{Fml, Header, LendsIf, MutBor, Policy, Setup, Violation}
 use Rattle.c_handle.specs.contracts.found.Found as found
 use Rattle.c_handle.specs.contracts.handle.Handle as handle
 use Rattle.c_handle.specs.contracts.thing.Thing as thing

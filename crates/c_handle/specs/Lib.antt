@@ -3,3 +3,4 @@ pub mod Crossing
 pub mod Handle
 pub mod Lending
 pub mod Things
+pub mod Words

@@ -1,14 +1,9 @@
 -- What a handle holds, by its kind, and what a call tells by it.
 use Rattle.std.specs.Prelude.{◌≡◌, ℕ, List, Option, Some, None, Result}
-use Rattle.value_text.specs.Texts.{Text}
 use Rattle.book_calls.specs.declared.book.Book as declared
-use Rattle.policy_csp_text.specs.declared.policy.Policy.{Policy}
 use Rattle.fetch_session.specs.declared.session.Session as declared_fetch
-use Rattle.value_headers.specs.declared.headers.Header.{Header}
-use Rattle.value_requests.specs.declared.policy.Violation.{Violation}
-use Rattle.c_fetch.specs.Setups.{Setup}
 use Rattle.c_fetch.specs.declared.asked.Asked as declared_request
-use Rattle.c_rules.specs.declared.refusal.Refusal.{Refusal}
+use Rattle.c_handle.specs.Words.{Header, Policy, Refusal, Setup, Text, Violation}
 use Rattle.c_handle.specs.Codes.{IsKept, IsTextTold}
 use Rattle.c_handle.specs.declared.codes.TheConstants.{WRONG_HANDLE}
 use Rattle.c_handle.specs.declared.thing.Thing.{Thing}

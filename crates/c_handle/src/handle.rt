@@ -43,17 +43,14 @@ impl Handle {
         Handle { at: at as *mut u8 }
     }
 
-    fn into_loose(self, alloc: Global) -> Option<Loose<Thing, Global>>
-        ensures { MatchOption result (self.held ≡ None) (λ loose. self.held ≡ Some loose.value) }
+    fn into_loose(self, alloc: Global) -> Loose<Thing, Global>
+        requires { self.held ≢ None }
+        ensures { self.held ≡ Some result.value }
     {
         let Handle { at } = self;
-        if at.is_null() {
-            None
-        } else {
-            Some(Loose {
-                at: at as *mut Thing,
-                alloc,
-            })
+        Loose {
+            at: at as *mut Thing,
+            alloc,
         }
     }
 
@@ -73,8 +70,8 @@ impl Handle {
         ensures empty { self.new.held ≡ None }
         ensures taken { MatchOption result (self.old.held ≡ None) (λ thing. self.old.held ≡ Some thing.value) }
     {
-        let loose = replace(self, Handle::empty()).into_loose(alloc)?;
-        Some(loose.into_box())
+        self.thing()?;
+        Some(replace(self, Handle::empty()).into_loose(alloc).into_box())
     }
 
     // Puts a thing into a handle that is empty: what another held would be forgotten.

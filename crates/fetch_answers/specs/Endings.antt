@@ -1,27 +1,10 @@
 -- How a fetch ends with the head of a response (Fetch, section 4.1 "main fetch", steps 14 to 23; "fetch response
 -- handover").
 use Rattle.std.specs.Prelude.{Bool, false, not, ◌==◌, ◌||◌, List, length, Option, Some, None, if◌then◌else◌}
-use Rattle.value_text.specs.Texts.{Text}
-use Rattle.policy_csp.specs.Violations.{has_enforced, response_violations}
-use Rattle.policy_csp_text.specs.declared.policy.Policy.{Policy}
-use Rattle.value_headers.specs.declared.headers.Header.{Header}
-use Rattle.policy_integrity.specs.Matching.{matches}
-use Rattle.policy_integrity.specs.Metadata.{metadata_of}
-use Rattle.value_origins.specs.declared.origin.Origin.{Origin}
-use Rattle.value_requests.specs.declared.error.NetError.{NetError}
-use Rattle.value_requests.specs.declared.error.NetError.TheVariants.{CspResponse, Mime, NoSniff, Integrity, Coding}
-use Rattle.value_requests.specs.declared.hop.Head.{Head}
-use Rattle.value_requests.specs.declared.policy.Destination.{Destination}
-use Rattle.value_requests.specs.declared.request.Request.{Request}
-use Rattle.value_requests.specs.declared.response.BodyEnd.{BodyEnd}
-use Rattle.value_requests.specs.declared.response.BodyEnd.TheVariants.{Whole}
-use Rattle.value_requests.specs.declared.response.Outcome.{Outcome}
-use Rattle.value_requests.specs.declared.response.Outcome.TheVariants.{Answer, Loaded, Error}
-use Rattle.value_requests.specs.declared.response.Response.{Response}
-use Rattle.policy_filter.specs.Blocks.{is_nosniff_blocked, is_type_blocked}
-use Rattle.policy_filter.specs.Filtered.{filtered}
-use Rattle.policy_filter.specs.Laws.{is_fetch, is_opaque_tainted}
-use Rattle.policy_filter.specs.Views.{is_manual}
+use Rattle.fetch_answers.specs.Words.{Answer, BodyEnd, Coding, CspResponse, Destination, Error, Head, Header, Integrity}
+use Rattle.fetch_answers.specs.Words.{Loaded, Mime, NetError, NoSniff, Origin, Outcome, Policy, Request, Response, Text}
+use Rattle.fetch_answers.specs.Words.{Whole, filtered, has_enforced, is_fetch, is_manual, is_nosniff_blocked}
+use Rattle.fetch_answers.specs.Words.{is_opaque_tainted, is_type_blocked, matches, metadata_of, response_violations}
 use Rattle.fetch_answers.specs.declared.answers.Ended.{Ended}
 use Rattle.fetch_answers.specs.declared.answers.Ended.TheVariants.{Over, Reads}
 use Rattle.fetch_answers.specs.Bodies.{has_null_body, is_coded}

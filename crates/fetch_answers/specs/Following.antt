@@ -1,18 +1,8 @@
 -- The request after a redirect to a URL (Fetch, section 4.5 "HTTP-redirect fetch", steps 8 to 19).
 use Rattle.std.specs.Prelude.{ℕ, ◌+◌, Bool, not, ◌==◌, ◌&&◌, ◌||◌, List, [], ◌∷◌, ◌++◌, filter, codes, bytes_eq, None}
 use Rattle.std.specs.Prelude.{if◌then◌else◌}
-use Rattle.url.specs.Parts.{Parts}
-use Rattle.value_text.specs.Texts.{Text}
-use Rattle.value_text.specs.Wildcards.{authorization}
-use Rattle.value_headers.specs.declared.headers.Header.{Header}
-use Rattle.value_headers.specs.Headers.{without}
-use Rattle.value_origins.specs.Origins.{have_same_origin}
-use Rattle.value_requests.specs.declared.hop.Head.{Head}
-use Rattle.value_requests.specs.declared.request.Request.{Request}
-use Rattle.value_requests.specs.Methods.{is_get_or_head}
-use Rattle.policy_checks.specs.PermittedNames.{has_name_among}
-use Rattle.value_requests.specs.ReferrerPolicies.{policy_of_header, policy_or}
-use Rattle.value_requests.specs.Requests.{current_url}
+use Rattle.fetch_answers.specs.Words.{Head, Header, Parts, Request, Text, authorization, current_url, has_name_among}
+use Rattle.fetch_answers.specs.Words.{have_same_origin, is_get_or_head, policy_of_header, policy_or, without}
 
 -- ---- the method (step 12)
 

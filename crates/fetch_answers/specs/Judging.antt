@@ -1,20 +1,10 @@
 -- How the head of an answer is judged (Fetch, section 4.4 "HTTP fetch", steps 4.4, 5 and 6): what it is refused for,
 -- and whether it is a redirect that is to be followed.
 use Rattle.std.specs.Prelude.{Bool, not, ◌&&◌, List, Option, None}
-use Rattle.std.specs.Bool.{then_some}
-use Rattle.std.specs.Option.{option_or}
-use Rattle.value_headers.specs.declared.headers.Header.{Header}
-use Rattle.value_requests.specs.declared.error.NetError.{NetError}
-use Rattle.value_requests.specs.declared.error.NetError.TheVariants.{CorsCheck, Corp, RedirectMode}
-use Rattle.value_requests.specs.declared.hop.Head.{Head}
-use Rattle.value_requests.specs.declared.mode.Tainting.{Tainting}
 use Rattle.value_requests.specs.declared.mode.Tainting.TheVariants as tainting
-use Rattle.value_requests.specs.declared.request.Request.{Request}
-use Rattle.value_requests.specs.Statuses.{is_redirect_status}
-use Rattle.policy_filter.specs.Views.{is_error}
-use Rattle.policy_checks.specs.ResourcePolicy.{is_blocked}
-use Rattle.policy_checks.specs.CorsCheck.{passes_check}
-use Rattle.value_requests.specs.Modes.{is_follow}
+use Rattle.fetch_answers.specs.Words.{Corp, CorsCheck, Head, Header, NetError, RedirectMode, Request, Tainting}
+use Rattle.fetch_answers.specs.Words.{is_blocked, is_error, is_follow, is_redirect_status, option_or, passes_check}
+use Rattle.fetch_answers.specs.Words.{then_some}
 
 -- the network error of the check of a response by this tainting: the CORS check (step 4.4), or the cross-origin
 -- resource policy check (step 5)

@@ -1,12 +1,7 @@
 -- Laws of the rules that look at a head: each comes to the same on what a document may learn of the head (this
 -- project's own definition; Fetch, sections 4.1, 4.4 and 4.5), so that a fetch rests on nothing else of an answer.
 use Rattle.std.specs.Prelude.{◌≡◌, Bool, not, IsTrue, None}
-use Rattle.url.specs.Parts.{Parts}
-use Rattle.value_requests.specs.declared.hop.Head.{Head}
-use Rattle.value_requests.specs.declared.hop.Hop.{Hop}
-use Rattle.value_requests.specs.declared.request.Request.{Request}
-use Rattle.policy_filter.specs.Laws.{follows_or_fetches}
-use Rattle.policy_filter.specs.Views.{permitted_view}
+use Rattle.fetch_answers.specs.Words.{Head, Hop, Parts, Request, follows_or_fetches, permitted_view}
 use Rattle.fetch_answers.specs.declared.answers.Redirection.TheVariants.{Stays, Goes}
 use Rattle.fetch_answers.specs.Endings.{ended}
 use Rattle.fetch_answers.specs.Following.{redirected_request}

@@ -4,3 +4,4 @@ pub mod Following
 pub mod Judging
 pub mod Laws
 pub mod Redirects
+pub mod Words

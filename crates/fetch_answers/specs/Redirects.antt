@@ -2,21 +2,10 @@
 -- section 2.2.6 "location URL").
 use Rattle.std.specs.Prelude.{Bool, not, ◌==◌, ◌<◌, ◌&&◌, ◌||◌, IsTrue, [], ◌∷◌, codes, Option, Some, None}
 use Rattle.std.specs.Prelude.{option_map, if◌then◌else◌}
-use Rattle.std.specs.Option.{option_or}
-use Rattle.url.specs.Parts.{Parts, has_credentials}
-use Rattle.value_text.specs.Texts.{Text}
-use Rattle.value_headers.specs.declared.extract.Extracted.{Extracted}
-use Rattle.value_headers.specs.declared.extract.Extracted.TheVariants.{Absent, Items}
-use Rattle.value_headers.specs.declared.extract.Rule.TheVariants.{Single}
-use Rattle.value_headers.specs.Extract.{extracted}
-use Rattle.value_origins.specs.Origins.{is_origin_of}
-use Rattle.value_requests.specs.declared.error.NetError.TheVariants.{BadLocation, RedirectScheme, TooManyRedirects}
-use Rattle.value_requests.specs.declared.error.NetError.TheVariants.{RedirectCredentials}
-use Rattle.value_requests.specs.declared.hop.Head.{Head}
-use Rattle.value_requests.specs.declared.request.Request.{Request}
-use Rattle.value_requests.specs.Modes.{is_cors_mode, is_cors_tainted}
-use Rattle.value_requests.specs.Requests.{current_url, is_http_url, most_redirects}
-use Rattle.value_requests.specs.Urls.{unless_long, url_against}
+use Rattle.fetch_answers.specs.Words.{Absent, BadLocation, Extracted, Head, Items, Parts, RedirectCredentials}
+use Rattle.fetch_answers.specs.Words.{RedirectScheme, Request, Single, Text, TooManyRedirects, current_url, extracted}
+use Rattle.fetch_answers.specs.Words.{has_credentials, is_cors_mode, is_cors_tainted, is_http_url, is_origin_of}
+use Rattle.fetch_answers.specs.Words.{most_redirects, option_or, unless_long, url_against}
 use Rattle.fetch_answers.specs.declared.answers.Redirection.{Redirection}
 use Rattle.fetch_answers.specs.declared.answers.Redirection.TheVariants.{Stays, Refuses, Goes}
 use Rattle.fetch_answers.specs.Judging.{is_to_follow}

@@ -2,18 +2,9 @@
 -- at its end the checks of the response and the reading of its body.
 -- Read it from the end: the last definition is the top one, and each hands on to those above it.
 use Rattle.std.specs.Prelude.{ℕ, zero, suc, ◌-◌, Ok, Err}
-use Rattle.value_requests.specs.declared.error.NetError.TheVariants.{TooManyRedirects}
-use Rattle.value_requests.specs.declared.request.Request.{Request}
-use Rattle.value_requests.specs.declared.response.Outcome.TheVariants.{Error}
-use Rattle.value_requests.specs.declared.response.Response.{Response}
-use Rattle.value_requests.specs.Requests.{most_redirects}
-use Rattle.policy_csp.specs.Violations.{response_violations}
-use Rattle.fetch_acts.specs.declared.act.Act.TheVariants.{ReadBody}
-use Rattle.fetch_acts.specs.declared.act.Input.{Input}
-use Rattle.fetch_acts.specs.Process.{Process, act, ended}
-use Rattle.fetch_answers.specs.Endings.{after_body as outcome_of, ended_under}
-use Rattle.fetch_answers.specs.declared.answers.Ended.{Ended}
-use Rattle.fetch_answers.specs.declared.answers.Ended.TheVariants.{Over, Reads}
+use Rattle.fetch_machine.specs.Words.{Ended, Error, Input, Over, Process, ReadBody, Reads, Request, Response}
+use Rattle.fetch_machine.specs.Words.{TooManyRedirects, act, ended, ended_under, most_redirects, outcome_of}
+use Rattle.fetch_machine.specs.Words.{response_violations}
 use Rattle.fetch_machine.specs.MainFetch.{main_fetch}
 use Rattle.fetch_machine.specs.Then.{Context, Onward, Then, body_of, tell_all}
 

@@ -2,20 +2,9 @@
 -- and judged, and a redirect goes on.
 -- Read it from the end: the last definition is the top one, and each hands on to those above it.
 use Rattle.std.specs.Prelude.{Bool, Option, Some, None, Result, Ok, Err, if◌then◌else◌}
-use Rattle.value_requests.specs.declared.error.NetError.{NetError}
-use Rattle.value_requests.specs.declared.error.NetError.TheVariants.{LinkFault}
-use Rattle.value_requests.specs.declared.hop.Head.{Head}
-use Rattle.value_requests.specs.declared.request.Request.{Request}
-use Rattle.fetch_requests.specs.Heads.{hop_of}
-use Rattle.fetch_acts.specs.declared.act.Act.TheVariants.{ReadHead, Send}
-use Rattle.fetch_acts.specs.declared.act.Input.{Input}
-use Rattle.fetch_acts.specs.Process.{Process, act}
-use Rattle.fetch_rules.specs.KnownHosts.{note_of}
-use Rattle.fetch_answers.specs.Judging.{refusal_after}
-use Rattle.fetch_answers.specs.Following.{redirected_request}
-use Rattle.fetch_answers.specs.Redirects.{redirection}
-use Rattle.fetch_answers.specs.declared.answers.Redirection.{Redirection}
-use Rattle.fetch_answers.specs.declared.answers.Redirection.TheVariants.{Goes, Refuses, Stays}
+use Rattle.fetch_machine.specs.Words.{Goes, Head, Input, LinkFault, NetError, Process, ReadHead, Redirection, Refuses}
+use Rattle.fetch_machine.specs.Words.{Request, Send, Stays, act, hop_of, note_of, redirected_request, redirection}
+use Rattle.fetch_machine.specs.Words.{refusal_after}
 use Rattle.fetch_machine.specs.Then.{Context, Onward, Then, head_of, then_ask_where, was_sent}
 
 -- HTTP-redirect fetch: the answer is the response (its step 4), or is refused (steps 5 to 10), or main fetch goes on at

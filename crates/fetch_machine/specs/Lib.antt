@@ -5,3 +5,4 @@ pub mod MainFetch
 pub mod PreflightFetch
 pub mod Ready
 pub mod Then
+pub mod Words

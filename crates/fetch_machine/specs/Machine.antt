@@ -1,14 +1,8 @@
 -- What a fetch that waits will do, as a process: the meaning of the places of the machine. Only the contracts of its
 -- calls cite it.
 use Rattle.std.specs.Prelude.{◌≡◌, ℕ, zero, suc, Bool, true, false, List, [], drop, Some, Result, Ok, Err}
-use Rattle.value_text.specs.declared.memory.OutOfMemory.{OutOfMemory}
-use Rattle.value_requests.specs.declared.error.NetError.TheVariants.{CspRequest}
-use Rattle.value_requests.specs.declared.request.Request.{Request}
-use Rattle.fetch_acts.specs.declared.act.Act.{Act}
-use Rattle.fetch_acts.specs.declared.act.Input.{Input}
-use Rattle.fetch_acts.specs.Process.{IsPlain, Process, Run, act, began, ended, followed, run}
-use Rattle.fetch_answers.specs.Judging.{refusal_after}
-use Rattle.fetch_rules.specs.Upgrading.{upgraded}
+use Rattle.fetch_machine.specs.Words.{Act, CspRequest, Input, IsPlain, OutOfMemory, Process, Request, Run, act, began}
+use Rattle.fetch_machine.specs.Words.{ended, followed, refusal_after, run, upgraded}
 use Rattle.fetch_machine.specs.declared.place.Fetching.{Fetching}
 use Rattle.fetch_machine.specs.declared.place.Level.{Level}
 use Rattle.fetch_machine.specs.declared.place.Place.{Place}

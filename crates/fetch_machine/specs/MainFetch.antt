@@ -1,24 +1,11 @@
 -- Main fetch up to the response (Fetch, section 4.1): what is done with a request before it is sent.
 -- Read it from the end: the last definition is the top one, and each hands on to those above it.
 use Rattle.std.specs.Prelude.{true, false, List, [], ◌∷◌, Option, Some, None, Err, if◌then◌else◌}
-use Rattle.value_requests.specs.declared.error.NetError.{NetError}
-use Rattle.value_requests.specs.declared.error.NetError.TheVariants.{CspRequest, Scheme}
 use Rattle.value_requests.specs.declared.mode.Tainting.TheVariants as tainting
-use Rattle.value_requests.specs.declared.policy.Violation.{Violation}
-use Rattle.value_requests.specs.declared.request.Request.{Request}
-use Rattle.value_requests.specs.Requests.{current_url, is_http_url}
-use Rattle.book_calls.specs.declared.op.Op.{Op}
-use Rattle.policy_csp.specs.Violations.{request_violations}
-use Rattle.fetch_acts.specs.declared.act.Act.TheVariants.{Ask}
-use Rattle.fetch_acts.specs.declared.act.Input.{Input}
-use Rattle.fetch_acts.specs.Process.{Process, act}
-use Rattle.fetch_rules.specs.Blocking.{refusal_before}
-use Rattle.fetch_rules.specs.KnownHosts.{match_of}
-use Rattle.fetch_rules.specs.Referrers.{with_referrer}
-use Rattle.fetch_rules.specs.Switch.{switch_of, with_tainting}
-use Rattle.fetch_rules.specs.Upgrading.{secured_where, upgraded}
-use Rattle.fetch_rules.specs.declared.switch.Switch.{Switch}
 use Rattle.fetch_rules.specs.declared.switch.Switch.TheVariants.{Fetches, Preflights, Refuses}
+use Rattle.fetch_machine.specs.Words.{Ask, CspRequest, Input, NetError, Op, Process, Request, Scheme, Switch, Violation}
+use Rattle.fetch_machine.specs.Words.{act, current_url, is_http_url, match_of, refusal_before, request_violations}
+use Rattle.fetch_machine.specs.Words.{secured_where, switch_of, upgraded, with_referrer, with_tainting}
 use Rattle.fetch_machine.specs.HttpFetch.{http_fetch}
 use Rattle.fetch_machine.specs.PreflightFetch.{with_preflight}
 use Rattle.fetch_machine.specs.Then.{Context, Onward, Then, said_yes, tell_all}

@@ -3,22 +3,9 @@
 -- of the request, as it is by then, is taken back.
 -- Read it from the end: the last definition is the top one, and each hands on to those above it.
 use Rattle.std.specs.Prelude.{Bool, List, Result, Ok, Err, if◌then◌else◌}
-use Rattle.value_text.specs.Texts.{Text}
-use Rattle.value_requests.specs.declared.error.NetError.{NetError}
-use Rattle.value_requests.specs.declared.error.NetError.TheVariants.{LinkFault}
-use Rattle.value_requests.specs.declared.hop.Head.{Head}
-use Rattle.value_requests.specs.declared.request.Request.{Request}
-use Rattle.policy_checks.specs.RequestOrigins.{serialized_request_origin}
-use Rattle.policy_safelist.specs.UnsafeNames.{unsafe_names}
-use Rattle.policy_preflight.specs.declared.answer.Checked.{Checked}
-use Rattle.policy_preflight.specs.declared.answer.Checked.TheVariants.{Pass, Refused}
-use Rattle.policy_preflight.specs.Preflight.{preflight_of}
-use Rattle.policy_preflight.specs.Verdict.{verdict}
-use Rattle.fetch_acts.specs.declared.act.Act.TheVariants.{Ask, ReadHead, Send}
-use Rattle.fetch_acts.specs.declared.act.Input.{Input}
-use Rattle.fetch_acts.specs.Process.{Process, act}
-use Rattle.fetch_rules.specs.KnownHosts.{note_of}
-use Rattle.fetch_rules.specs.Questions.{clear_of, covers_of, learn_of}
+use Rattle.fetch_machine.specs.Words.{Ask, Checked, Head, Input, LinkFault, NetError, Pass, Process, ReadHead, Refused}
+use Rattle.fetch_machine.specs.Words.{Request, Send, Text, act, clear_of, covers_of, learn_of, note_of, preflight_of}
+use Rattle.fetch_machine.specs.Words.{serialized_request_origin, unsafe_names, verdict}
 use Rattle.fetch_machine.specs.HttpFetch.{http_fetch}
 use Rattle.fetch_machine.specs.Then.{Context, Onward, Then, head_of, said_yes, then_ask, then_ask_where, was_sent}
 

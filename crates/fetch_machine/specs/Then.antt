@@ -1,22 +1,9 @@
 -- What the rules of a fetch share: what they are lent, what follows them, and what an input says (Fetch, section 4,
 -- where the steps return to the step that called them).
 use Rattle.std.specs.Prelude.{ℕ, Bool, true, false, List, [], ◌∷◌, Option, Some, None, Result, Ok, Err}
-use Rattle.book_calls.specs.declared.op.Op.{Op}
-use Rattle.book_calls.specs.declared.op.Reply.TheVariants.{Yes}
-use Rattle.policy_csp_text.specs.declared.policy.Policy.{Policy}
-use Rattle.value_requests.specs.declared.client.Client.{Client}
-use Rattle.value_requests.specs.declared.client.Cookie.{Cookie}
-use Rattle.value_requests.specs.declared.error.NetError.{NetError}
-use Rattle.value_requests.specs.declared.error.NetError.TheVariants.{BadHead, HeadTooBig, LinkFault}
-use Rattle.value_requests.specs.declared.hop.Head.{Head}
-use Rattle.value_requests.specs.declared.policy.Violation.{Violation}
-use Rattle.value_requests.specs.declared.request.Request.{Request}
-use Rattle.value_requests.specs.declared.response.BodyEnd.{BodyEnd}
-use Rattle.value_requests.specs.declared.response.BodyEnd.TheVariants.{Null}
-use Rattle.fetch_acts.specs.declared.act.Act.TheVariants.{Ask, Tell}
-use Rattle.fetch_acts.specs.declared.act.Input.{Input}
-use Rattle.fetch_acts.specs.declared.act.Input.TheVariants.{BodyIs, HeadBad, HeadIs, HeadLong, Replied, Sent}
-use Rattle.fetch_acts.specs.Process.{Process, act}
+use Rattle.fetch_machine.specs.Words.{Ask, BadHead, BodyEnd, BodyIs, Client, Cookie, Head, HeadBad, HeadIs, HeadLong}
+use Rattle.fetch_machine.specs.Words.{HeadTooBig, Input, LinkFault, NetError, Null, Op, Policy, Process, Replied}
+use Rattle.fetch_machine.specs.Words.{Request, Sent, Tell, Violation, Yes, act}
 
 -- What a fetch is lent: the client that fetches, its policies, the table of cookies, and the time.
 pub record Context : Type 0 where

@@ -1,24 +1,12 @@
 -- A request as it is sent (Fetch, section 4.6 "HTTP-network-or-cache fetch", step 8; RFC 9112, section 3.2).
 use Rattle.std.specs.Prelude.{Bool, true, false, List, [], ◌∷◌, length, codes, decimal, bytes_eq, Option}
 use Rattle.std.specs.Prelude.{Some, None, if◌then◌else◌}
-use Rattle.url.specs.Parts.{Parts}
-use Rattle.value_text.specs.Texts.{Text}
-use Rattle.value_origins.specs.Origins.{origin_of}
-use Rattle.value_headers.specs.declared.headers.Header.{Header}
-use Rattle.value_headers.specs.Headers.{all_appended, contains}
-use Rattle.value_requests.specs.declared.client.Cookie.{Cookie}
-use Rattle.value_requests.specs.declared.hop.Hop.{Hop}
-use Rattle.value_requests.specs.declared.mode.Credentials.{Credentials}
 use Rattle.value_requests.specs.declared.mode.Credentials.TheVariants as credentials
-use Rattle.value_requests.specs.declared.mode.Tainting.{Tainting}
 use Rattle.value_requests.specs.declared.mode.Tainting.TheVariants as tainting
-use Rattle.value_requests.specs.declared.request.Request.{Request}
-use Rattle.value_requests.specs.Lines.{Line, accept_encoding, all_appended_where, connection, header, line, line_where}
-use Rattle.value_requests.specs.Lines.{user_agent}
-use Rattle.value_requests.specs.Methods.{is_post_or_put}
-use Rattle.policy_checks.specs.OriginHeader.{origin_value, referrer_value}
-use Rattle.value_requests.specs.Requests.{current_url}
-use Rattle.value_requests.specs.Targets.{host_value, origin_text, target_of}
+use Rattle.fetch_requests.specs.Words.{Cookie, Credentials, Header, Hop, Line, Parts, Request, Tainting, Text}
+use Rattle.fetch_requests.specs.Words.{accept_encoding, all_appended, all_appended_where, connection, contains}
+use Rattle.fetch_requests.specs.Words.{current_url, header, host_value, is_post_or_put, line, line_where, origin_of}
+use Rattle.fetch_requests.specs.Words.{origin_text, origin_value, referrer_value, target_of, user_agent}
 
 -- ---- the values of headers
 

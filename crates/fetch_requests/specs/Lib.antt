@@ -1,3 +1,4 @@
 pub mod Making
 pub mod Loading
 pub mod Heads
+pub mod Words

@@ -2,24 +2,12 @@
 -- request"), or why it makes none: its text gives no URL.
 use Rattle.std.specs.Prelude.{Bool, true, false, List, [], ◌∷◌, codes, Option, Some, None, Result, Ok, Err}
 use Rattle.std.specs.Prelude.{if◌then◌else◌}
-use Rattle.url.specs.Parts.{Parts}
-use Rattle.value_headers.specs.declared.headers.Header.{Header}
-use Rattle.value_requests.specs.declared.client.Client.{Client}
-use Rattle.value_requests.specs.declared.fault.TypeFault.{TypeFault}
-use Rattle.value_requests.specs.declared.fault.TypeFault.TheVariants.{BadUrl}
-use Rattle.value_requests.specs.declared.init.CrossOrigin.{CrossOrigin}
-use Rattle.value_requests.specs.declared.init.CrossOrigin.TheVariants.{Absent, Anonymous, UseCredentials}
-use Rattle.value_requests.specs.declared.init.LoadInit.{LoadInit}
-use Rattle.value_requests.specs.declared.mode.Credentials.{Credentials}
 use Rattle.value_requests.specs.declared.mode.Credentials.TheVariants as credentials
-use Rattle.value_requests.specs.declared.mode.Mode.{Mode}
 use Rattle.value_requests.specs.declared.mode.Mode.TheVariants as mode
-use Rattle.value_requests.specs.declared.mode.RedirectMode.TheVariants.{Follow}
-use Rattle.value_requests.specs.declared.mode.Tainting.TheVariants.{Basic}
-use Rattle.value_requests.specs.declared.policy.Destination.{Destination}
 use Rattle.value_requests.specs.declared.policy.Destination.TheVariants as destination
 use Rattle.value_requests.specs.declared.request.Referrer.TheVariants as referrer
-use Rattle.value_requests.specs.declared.request.Request.{Request}
+use Rattle.fetch_requests.specs.Words.{Absent, Anonymous, BadUrl, Basic, Client, Credentials, CrossOrigin, Destination}
+use Rattle.fetch_requests.specs.Words.{Follow, Header, LoadInit, Mode, Parts, Request, TypeFault, UseCredentials}
 use Rattle.fetch_requests.specs.Making.{accept_value, unless_there, url_given}
 
 -- ---- the CORS settings

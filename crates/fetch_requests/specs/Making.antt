@@ -2,35 +2,15 @@
 -- none: the first of nine faults.
 use Rattle.std.specs.Prelude.{ℕ, ◌+◌, ◌&&◌, ◌||◌, Bool, true, false, not, nat_lt, List, [], ◌∷◌, length}
 use Rattle.std.specs.Prelude.{sum_by, codes, Option, Some, None, is_some, option_map, Result, Ok, Err, if◌then◌else◌}
-use Rattle.std.specs.Bool.{then_some}
-use Rattle.url.specs.Parts.{Parts, has_credentials}
-use Rattle.value_text.specs.Texts.{Text}
-use Rattle.value_text.specs.Tokens.{is_token}
-use Rattle.value_text.specs.Values.{is_header_value}
-use Rattle.value_headers.specs.declared.headers.Header.{Header}
-use Rattle.value_headers.specs.Headers.{appended, contains}
-use Rattle.policy_safelist.specs.Forbidden.{is_forbidden_method}
-use Rattle.policy_safelist.specs.Guards.{outcome, list_after}
-use Rattle.policy_safelist.specs.declared.guard.Guard.{Guard}
 use Rattle.policy_safelist.specs.declared.guard.Guard.TheVariants as guard
-use Rattle.value_requests.specs.declared.client.Client.{Client}
-use Rattle.value_requests.specs.declared.fault.TypeFault.{TypeFault}
-use Rattle.value_requests.specs.declared.fault.TypeFault.TheVariants.{BadUrl, UrlCredentials, BadMethod}
-use Rattle.value_requests.specs.declared.fault.TypeFault.TheVariants.{ForbiddenMethod}
-use Rattle.value_requests.specs.declared.fault.TypeFault.TheVariants.{BodyWithGet, NoCorsMethod, BadHeader}
-use Rattle.value_requests.specs.declared.fault.TypeFault.TheVariants.{NavigateMode, TooLong}
-use Rattle.value_requests.specs.declared.init.Init.{Init}
-use Rattle.value_requests.specs.declared.init.Pair.{Pair}
-use Rattle.value_requests.specs.declared.mode.Mode.{Mode}
-use Rattle.value_requests.specs.declared.mode.Mode.TheVariants.{NoCors, Navigate}
-use Rattle.value_requests.specs.declared.mode.Tainting.TheVariants.{Basic}
-use Rattle.value_requests.specs.declared.policy.Destination.{Destination}
 use Rattle.value_requests.specs.declared.policy.Destination.TheVariants as destination
-use Rattle.value_requests.specs.declared.request.Referrer.{Referrer}
 use Rattle.value_requests.specs.declared.request.Referrer.TheVariants as referrer
-use Rattle.value_requests.specs.declared.request.Request.{Request}
-use Rattle.value_requests.specs.Urls.{unless_long, url_against}
-use Rattle.value_requests.specs.Methods.{is_safelisted_method, is_get_or_head, normalized}
+use Rattle.fetch_requests.specs.Words.{BadHeader, BadMethod, BadUrl, Basic, BodyWithGet, Client, Destination}
+use Rattle.fetch_requests.specs.Words.{ForbiddenMethod, Guard, Header, Init, Mode, Navigate, NavigateMode, NoCors}
+use Rattle.fetch_requests.specs.Words.{NoCorsMethod, Pair, Parts, Referrer, Request, Text, TooLong, TypeFault}
+use Rattle.fetch_requests.specs.Words.{UrlCredentials, appended, contains, has_credentials, is_forbidden_method}
+use Rattle.fetch_requests.specs.Words.{is_get_or_head, is_header_value, is_safelisted_method, is_token, list_after}
+use Rattle.fetch_requests.specs.Words.{normalized, outcome, then_some, unless_long, url_against}
 
 -- ---- the URL
 

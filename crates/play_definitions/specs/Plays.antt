@@ -2,24 +2,9 @@
 -- over the document's own entries of that history (this project's own; what a run does is script_runs's definition,
 -- what comes of its acts that of `Worlds`, and a fetch is the whole one, Fetch, section 4.1).
 use Rattle.std.specs.Prelude.{◌≡◌, ℕ, ◌+◌, ◌<◌, List, [], ◌∷◌, length, map, Option, Some, None}
-use Rattle.std.specs.List.{AllByRecursion}
-use Rattle.book_calls.specs.declared.book.Book.{Book}
-use Rattle.book_calls.specs.declared.entry.Entry.{Entry}
-use Rattle.book_calls.specs.declared.op.Op.TheVariants.{Note}
-use Rattle.book_calls.specs.Book.{after, empty}
-use Rattle.book_calls.specs.Entries.{Legal, entries_of}
-use Rattle.script_events.specs.declared.events.Ending.{Ending}
-use Rattle.script_events.specs.declared.events.Event.{Event}
-use Rattle.script_events.specs.declared.events.Transcript.{Transcript}
-use Rattle.script_scenarios.specs.declared.document.Document.{Document}
-use Rattle.script_scenarios.specs.declared.hosts.KnownHost.{KnownHost}
-use Rattle.script_scenarios.specs.declared.scenario.Scenario.{Scenario}
-use Rattle.script_scenarios.specs.declared.servers.Server.{Server}
-use Rattle.script_scenarios.specs.Servers.{answer}
-use Rattle.script_runs.specs.Documents.{EachDocument}
-use Rattle.script_runs.specs.Play.{Play}
-use Rattle.script_runs.specs.Runs.{document_client, document_run}
-use Rattle.fetch_wire.specs.Exchanges.{Answering}
+use Rattle.play_definitions.specs.Words.{AllByRecursion, Answering, Book, Document, EachDocument, Ending, Entry, Event}
+use Rattle.play_definitions.specs.Words.{KnownHost, Legal, Note, Play, Scenario, Server, Transcript, after, answer}
+use Rattle.play_definitions.specs.Words.{document_client, document_run, empty, entries_of}
 use Rattle.play_definitions.specs.Playing.{RunPlayed}
 use Rattle.play_definitions.specs.Worlds.{Outside}
 

@@ -1,16 +1,8 @@
 -- What a document would do alone: over what it may learn of the answers to its requests, with each call of the shared
 -- book replied to by the book after the call's past (this project's own definition).
 use Rattle.std.specs.Prelude.{ℕ, List, [], ◌∷◌, map}
-use Rattle.value_text.specs.Texts.{Text}
-use Rattle.book_calls.specs.declared.book.Book.{Book}
-use Rattle.book_calls.specs.declared.entry.Entry.{Entry}
-use Rattle.book_calls.specs.declared.op.Op.{Op}
-use Rattle.book_calls.specs.declared.op.Reply.{Reply}
-use Rattle.book_calls.specs.Book.{after as book_behind, reply as reply_of_book}
-use Rattle.book_calls.specs.Past.{pasts_of}
-use Rattle.fetch_acts.specs.declared.act.Input.{Input}
-use Rattle.script_runs.specs.Play.{Play, PlayRun, run_play}
-use Rattle.fetch_views.specs.Apart.{woven}
+use Rattle.play_isolation.specs.Words.{Book, Entry, Input, Op, Play, PlayRun, Reply, Text, book_behind, pasts_of}
+use Rattle.play_isolation.specs.Words.{reply_of_book, run_play, woven}
 use Rattle.play_isolation.specs.Apart.{plan_of}
 
 -- the ops of entries

@@ -2,19 +2,11 @@
 -- answers to its requests, what was learnt and cleared under its key, and what was noted of known hosts (this project's
 -- own definition).
 use Rattle.std.specs.Prelude.{◌≡◌, ℕ, List, Some}
-use Rattle.fetch_acts.specs.declared.act.Input.{Input}
-use Rattle.book_calls.specs.declared.entry.Entry.{Entry}
-use Rattle.script_events.specs.declared.events.Transcript.{Transcript}
-use Rattle.script_scenarios.specs.declared.document.Document.{Document}
-use Rattle.script_scenarios.specs.declared.scenario.Scenario.{Scenario}
-use Rattle.script_runs.specs.Documents.{EachDocument}
-use Rattle.script_runs.specs.Play.{Play, PlayRun}
-use Rattle.script_runs.specs.Runs.{document_client, document_run}
-use Rattle.fetch_wire.specs.Exchanges.{Answering}
-use Rattle.fetch_views.specs.Apart.{views_on}
+use Rattle.play_isolation.specs.Words.{Answering, Document, EachDocument, Entry, Input, IsPlayOver, IsTranscript, Play}
+use Rattle.play_isolation.specs.Words.{PlayRun, Scenario, Transcript, Way, document_client, document_run, opening_book}
+use Rattle.play_isolation.specs.Words.{views_on}
 use Rattle.play_isolation.specs.Alone.{alone, pasts}
 use Rattle.play_isolation.specs.Apart.{plan_of}
-use Rattle.play_definitions.specs.Plays.{IsPlayOver, IsTranscript, Way, opening_book}
 
 -- what a transcript says of its document's run: the events, and the ending with the clock
 abbrev pub run_of : Transcript → PlayRun

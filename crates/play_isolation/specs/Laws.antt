@@ -2,27 +2,14 @@
 -- what the document may learn of the answers alone; and the replies on what was done under the document's key, and
 -- noted of known hosts, alone (this project's own definition).
 use Rattle.std.specs.Prelude.{◌≡◌, ◌≤◌, ◌^◌, ℕ, true, List, Some}
-use Rattle.std.specs.List.{AllByRecursion}
-use Rattle.fetch_acts.specs.declared.act.Input.{Input}
-use Rattle.book_calls.specs.declared.book.Book.{Book}
-use Rattle.book_calls.specs.declared.entry.Entry.{Entry}
-use Rattle.book_calls.specs.Entries.{Legal, entries_of}
-use Rattle.book_calls.specs.Ops.{InRange}
-use Rattle.book_calls.specs.Past.{is_of_key}
-use Rattle.script_commands.specs.Valid.{AreValid}
-use Rattle.script_events.specs.declared.events.Transcript.{Transcript}
-use Rattle.script_runs.specs.Play.{Play, run_play}
-use Rattle.script_runs.specs.Runs.{document_client, document_run}
-use Rattle.script_scenarios.specs.declared.document.Document.{Document}
-use Rattle.script_scenarios.specs.declared.scenario.Scenario.{Scenario}
-use Rattle.value_requests.specs.declared.client.Cookie.{Cookie}
-use Rattle.fetch_wire.specs.Exchanges.{Answering}
-use Rattle.fetch_views.specs.Apart.{Made, replies_on, views_on}
+use Rattle.play_isolation.specs.Words.{AllByRecursion, Answering, AreValid, Book, Cookie, Document, Entry, InRange}
+use Rattle.play_isolation.specs.Words.{Input, IsPlay, IsPlayOver, IsTranscript, Legal, Made, Play, Scenario, Transcript}
+use Rattle.play_isolation.specs.Words.{Way, document_client, document_run, entries_of, is_of_key, opening_book}
+use Rattle.play_isolation.specs.Words.{replies_on, run_play, views_on}
 use Rattle.play_isolation.specs.Alone.{alone, pasts}
 use Rattle.play_isolation.specs.Apart.{apart, plan_of}
 use Rattle.play_isolation.specs.Calls.{PartAtReply, calls_in, document_calls}
 use Rattle.play_isolation.specs.Isolated.{IsIsolated, run_in, run_of}
-use Rattle.play_definitions.specs.Plays.{IsPlay, IsPlayOver, IsTranscript, Way, opening_book}
 
 -- ---- runs over tapes
 

@@ -4,3 +4,4 @@ pub mod Calls
 pub mod Hidden
 pub mod Isolated
 pub mod Laws
+pub mod Words

@@ -1,16 +1,8 @@
 -- Laws of the CORS protocol (Fetch, "CORS check" and section 4.8 "CORS-preflight fetch").
 use Rattle.std.specs.Prelude.{◌≡◌, ◌≢◌, ◌≤◌, Bool, true, false, List, codes, Some}
 use Rattle.std.specs.Prelude.{IsTrue}
-use Rattle.std.specs.List.{list_all}
-use Rattle.value_text.specs.Texts.{Text}
-use Rattle.value_text.specs.Tokens.{is_token}
-use Rattle.value_requests.specs.Requests.{IsRequest}
-use Rattle.value_headers.specs.declared.headers.Header.{Header}
-use Rattle.value_headers.specs.Headers.{combined}
-use Rattle.value_requests.specs.declared.hop.Head.{Head}
-use Rattle.value_requests.specs.declared.request.Request.{Request}
-use Rattle.policy_checks.specs.CorsCheck.{passes_cors_check}
-use Rattle.policy_checks.specs.PermittedNames.{preflight_view}
+use Rattle.policy_preflight.specs.Words.{Head, Header, IsRequest, Request, Text, combined, is_token, list_all}
+use Rattle.policy_preflight.specs.Words.{passes_cors_check, preflight_view}
 use Rattle.policy_preflight.specs.declared.answer.Checked.{Checked}
 use Rattle.policy_preflight.specs.declared.answer.Checked.TheVariants.{Pass, Refused}
 use Rattle.policy_preflight.specs.Verdict.{verdict}

@@ -1,3 +1,4 @@
 pub mod Laws
 pub mod Preflight
 pub mod Verdict
+pub mod Words

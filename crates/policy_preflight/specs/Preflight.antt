@@ -1,19 +1,10 @@
 -- A CORS-preflight request as it is sent (Fetch, section 4.8 "CORS-preflight fetch", steps 1 to 6, and section 4.6
 -- "HTTP-network-or-cache fetch"; RFC 9112, section 3.2).
 use Rattle.std.specs.Prelude.{true, List, [], ◌∷◌, codes, Option, Some, None}
-use Rattle.std.specs.List.{join_with_byte}
-use Rattle.url.specs.Parts.{Parts}
-use Rattle.value_text.specs.Texts.{Text}
-use Rattle.value_text.specs.Ascii.{comma}
-use Rattle.value_origins.specs.Origins.{origin_of}
-use Rattle.value_requests.specs.declared.hop.Hop.{Hop}
-use Rattle.value_requests.specs.declared.request.Request.{Request}
-use Rattle.value_requests.specs.Lines.{Line, accept_encoding, all_appended_where, connection, line, line_where}
-use Rattle.value_requests.specs.Lines.{user_agent}
-use Rattle.policy_checks.specs.OriginHeader.{referrer_value}
-use Rattle.value_requests.specs.Requests.{current_url}
-use Rattle.policy_checks.specs.RequestOrigins.{serialized_request_origin}
-use Rattle.value_requests.specs.Targets.{host_value, origin_text, target_of}
+use Rattle.policy_preflight.specs.Words.{Hop, Line, Parts, Request, Text, accept_encoding, all_appended_where, comma}
+use Rattle.policy_preflight.specs.Words.{connection, current_url, host_value, join_with_byte, line, line_where}
+use Rattle.policy_preflight.specs.Words.{origin_of, origin_text, referrer_value, serialized_request_origin, target_of}
+use Rattle.policy_preflight.specs.Words.{user_agent}
 
 -- the value of Access-Control-Request-Headers, where there are CORS-unsafe request-header names: these, with a comma
 -- between each two

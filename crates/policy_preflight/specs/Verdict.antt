@@ -2,25 +2,11 @@
 -- the first check that refuses it, or what is learned from it.
 use Rattle.std.specs.Prelude.{ℕ, Bool, not, ◌&&◌, ◌||◌, List, [], ◌∷◌, codes, bytes_eq, Option, Some, None}
 use Rattle.std.specs.Prelude.{unwrap_or, if◌then◌else◌}
-use Rattle.std.specs.List.{find, list_any}
-use Rattle.std.specs.Str.{str_eq_ignore_ascii_case}
-use Rattle.value_text.specs.Texts.{Text}
-use Rattle.value_text.specs.Digits.{capped_digits}
-use Rattle.value_text.specs.Wildcards.{authorization, has_wildcard}
-use Rattle.value_headers.specs.declared.extract.Extracted.{Extracted}
-use Rattle.value_headers.specs.declared.extract.Extracted.TheVariants.{Absent, Failure, Items}
-use Rattle.value_headers.specs.declared.extract.Rule.TheVariants.{Digits, Tokens}
-use Rattle.value_headers.specs.declared.headers.Header.{Header}
-use Rattle.value_headers.specs.Extract.{extracted}
-use Rattle.value_headers.specs.Headers.{contains}
 use Rattle.value_requests.specs.declared.error.NetError.TheVariants as error
-use Rattle.value_requests.specs.declared.hop.Head.{Head}
-use Rattle.value_requests.specs.declared.mode.Credentials.{Credentials}
-use Rattle.value_requests.specs.declared.request.Request.{Request}
-use Rattle.value_requests.specs.Modes.{is_include}
-use Rattle.policy_checks.specs.CorsCheck.{passes_cors_check}
-use Rattle.value_requests.specs.Methods.{is_safelisted_method}
-use Rattle.value_requests.specs.Statuses.{is_ok_status}
+use Rattle.policy_preflight.specs.Words.{Absent, Credentials, Digits, Extracted, Failure, Head, Header, Items, Request}
+use Rattle.policy_preflight.specs.Words.{Text, Tokens, authorization, capped_digits, contains, extracted, find}
+use Rattle.policy_preflight.specs.Words.{has_wildcard, is_include, is_ok_status, is_safelisted_method, list_any}
+use Rattle.policy_preflight.specs.Words.{passes_cors_check, str_eq_ignore_ascii_case}
 use Rattle.policy_preflight.specs.declared.answer.Checked.{Checked}
 use Rattle.policy_preflight.specs.declared.answer.Checked.TheVariants.{Pass, Refused}
 

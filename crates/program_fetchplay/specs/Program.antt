@@ -2,31 +2,13 @@
 -- then, and what it tells the complaints. What a play is, and that in it each document sends and sees what it would
 -- alone, play_isolation's definitions say; why a program comes to a verdict on an input, program_shell's.
 use Rattle.std.specs.Prelude.{◌≡◌, ◌≢◌, ℕ, ◌≤◌, ◌⊎◌, min, List, map, Option, Some, None}
-use Rattle.value_text.specs.Texts.{Text}
-use Rattle.book_calls.specs.declared.entry.Entry.{Entry}
-use Rattle.link_traits.specs.Links.{LinkTold}
-use Rattle.link_traits.specs.Sinks.{SinkTold}
-use Rattle.link_traits.specs.Sources.{SourceTold}
-use Rattle.script_events.specs.declared.events.Transcript.{Transcript}
-use Rattle.play_text.specs.Summary.{summary_text}
-use Rattle.play_text.specs.Text.{play_text}
-use Rattle.program_shell.specs.Complaints.{HasComplained, IsAnswer}
-use Rattle.program_shell.specs.Inputs.{Reads, Refuses}
-use Rattle.program_shell.specs.Program.{AnswersInput, AnswersText, IsDone, IsExcused, IsPlayed, IsWritten}
-use Rattle.program_shell.specs.Sinks.{Failed}
-use Rattle.program_shell.specs.declared.status.Status.{Status}
 use Rattle.program_shell.specs.declared.status.Status.TheVariants as status
-use Rattle.script_scenarios.specs.declared.scenario.Scenario.{Scenario}
-use Rattle.script_runs.specs.Documents.{EachDocument}
-use Rattle.script_reading.specs.Generated.{generated}
-use Rattle.script_reading.specs.Scenarios.{scenario_of}
-use Rattle.script_reading.specs.declared.place.Place.{Place}
-use Rattle.fetch_wire.specs.Exchanges.{Answering}
-use Rattle.play_isolation.specs.Isolated.{IsAlone, IsIsolated}
-use Rattle.play_definitions.specs.Plays.{IsPlay, by_rules, ways_to_servers}
-use Rattle.play_seats.specs.Links.{way_of}
-use Rattle.play_seats.specs.Makers.{HasTakenBack}
-use Rattle.play_whole.specs.Links.{IsPlayOverLinks, WasRefused}
+use Rattle.program_fetchplay.specs.Terms.{Answering, AnswersInput, AnswersText, EachDocument, Entry, Failed}
+use Rattle.program_fetchplay.specs.Terms.{HasComplained, HasTakenBack, IsAlone, IsAnswer, IsDone, IsExcused, IsIsolated}
+use Rattle.program_fetchplay.specs.Terms.{IsPlay, IsPlayOverLinks, IsPlayed, IsWritten, LinkTold, Place, Reads, Refuses}
+use Rattle.program_fetchplay.specs.Terms.{Scenario, SinkTold, SourceTold, Status, Text, Transcript, WasRefused}
+use Rattle.program_fetchplay.specs.Terms.{by_rules, generated, play_text, scenario_of, summary_text, way_of}
+use Rattle.program_fetchplay.specs.Terms.{ways_to_servers}
 use Rattle.program_fetchplay.specs.Statuses.{complaint}
 use Rattle.program_fetchplay.specs.Streams.{Net}
 use Rattle.program_fetchplay.specs.Words.{subcommand_of}

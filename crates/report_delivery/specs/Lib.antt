@@ -3,3 +3,4 @@ pub mod Laws
 pub mod Private
 pub mod Reporting
 pub mod Reports
+pub mod Words

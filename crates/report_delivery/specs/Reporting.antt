@@ -2,17 +2,10 @@
 -- document's script has ended (CSP 3, section 5.5 "report a violation"), and the limits at which a delivery ends early
 -- (this project's own).
 use Rattle.std.specs.Prelude.{ℕ, List, [], ◌∷◌}
-use Rattle.fetch_machine.specs.Fetch.{fetch}
-use Rattle.script_events.specs.declared.events.Ending.{Ending}
 use Rattle.script_events.specs.declared.events.Ending.TheVariants as ending
-use Rattle.script_events.specs.declared.events.Event.{Event}
-use Rattle.script_events.specs.declared.events.Event.TheVariants.{Result}
-use Rattle.script_runs.specs.Play.{Play}
-use Rattle.script_runs.specs.Runs.{Next, Setting, at_time, beginning, document_client, embed, fetch_limit}
-use Rattle.script_runs.specs.Runs.{fetch_started, finished, setting, showing, unless_limit}
-use Rattle.script_scenarios.specs.declared.document.Document.{Document}
-use Rattle.value_requests.specs.declared.client.Cookie.{Cookie}
-use Rattle.value_requests.specs.declared.request.Request.{Request}
+use Rattle.report_delivery.specs.Words.{Cookie, Document, Ending, Event, Next, Play, Request, Result, Setting, at_time}
+use Rattle.report_delivery.specs.Words.{beginning, document_client, embed, fetch, fetch_limit, fetch_started, finished}
+use Rattle.report_delivery.specs.Words.{setting, showing, unless_limit}
 use Rattle.report_delivery.specs.declared.delivery.DeliveredEnd.{DeliveredEnd}
 use Rattle.report_delivery.specs.declared.delivery.DeliveredEnd.TheVariants.{Finished, Reports, Text}
 use Rattle.report_delivery.specs.Reports.{report_requests}

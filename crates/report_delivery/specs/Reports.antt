@@ -2,32 +2,15 @@
 -- for the directive `report-uri`). The body has four members of the standard's, so that it tells of an answer or of a
 -- redirect's target nothing; the redirect mode, the header Accept and the destination are those of a `fetch` (this
 -- project's own choice).
-use Rattle.json.specs.Print.{quoted}
 use Rattle.std.specs.Prelude.{ℕ, ◌&&◌, Bool, true, false, not, List, [], ◌∷◌, ◌++◌, map, codes, bytes_eq, slice_get}
 use Rattle.std.specs.Prelude.{Option, Some, None, unwrap_or, if◌then◌else◌}
-use Rattle.std.specs.List.{filter_map, flat_map}
-use Rattle.std.specs.Option.{option_map_or}
-use Rattle.url.specs.Parts.{Parts, has_credentials}
-use Rattle.value_text.specs.Texts.{Text}
-use Rattle.policy_csp_text.specs.declared.policy.Directive.{Directive}
-use Rattle.policy_csp_text.specs.declared.policy.Policy.{Policy}
-use Rattle.value_headers.specs.declared.headers.Header.{Header}
-use Rattle.value_origins.specs.Origins.{is_http, tuple_origin}
-use Rattle.script_events.specs.declared.events.Event.{Event}
-use Rattle.script_events.specs.declared.events.Event.TheVariants.{Told}
-use Rattle.script_scenarios.specs.declared.document.Document.{Document}
 use Rattle.value_requests.specs.declared.mode.Credentials.TheVariants as credentials
 use Rattle.value_requests.specs.declared.mode.Mode.TheVariants as mode
-use Rattle.value_requests.specs.declared.mode.RedirectMode.TheVariants.{Follow}
-use Rattle.value_requests.specs.declared.mode.ReferrerPolicy.TheVariants.{Empty}
-use Rattle.value_requests.specs.declared.mode.Tainting.TheVariants.{Basic}
 use Rattle.value_requests.specs.declared.policy.Destination.TheVariants as destination
-use Rattle.value_requests.specs.declared.policy.Violation.{Violation}
-use Rattle.value_requests.specs.declared.request.Referrer.TheVariants.{Client}
-use Rattle.value_requests.specs.declared.request.Request.{Request}
-use Rattle.value_requests.specs.Lines.{header}
-use Rattle.value_requests.specs.Names.{directive_name}
-use Rattle.value_requests.specs.Urls.{is_short_url, url_against, utf8_text, without_fragment}
+use Rattle.report_delivery.specs.Words.{Basic, Client, Directive, Document, Empty, Event, Follow, Header, Parts, Policy}
+use Rattle.report_delivery.specs.Words.{Request, Text, Told, Violation, directive_name, filter_map, flat_map}
+use Rattle.report_delivery.specs.Words.{has_credentials, header, is_http, is_short_url, option_map_or, quoted}
+use Rattle.report_delivery.specs.Words.{tuple_origin, url_against, utf8_text, without_fragment}
 
 -- ---- what is reported
 

@@ -1,15 +1,8 @@
 -- The printed text of what was done on the shared book: an operation with its time, and what it replied (the output of
 -- `fetchplay play`).
 use Rattle.std.specs.Prelude.{ℕ, Bool, true, false, List, [], ◌∷◌, ◌++◌, codes, decimal, Option, Some, None}
-use Rattle.std.specs.List.{flat_map}
-use Rattle.value_text.specs.Texts.{Text}
-use Rattle.book_calls.specs.declared.op.Op.{Op}
-use Rattle.book_calls.specs.declared.op.Op.TheVariants.{Match, Note, Covers, Learn, Clear}
-use Rattle.book_calls.specs.declared.op.Reply.{Reply}
-use Rattle.book_calls.specs.declared.op.Reply.TheVariants.{Yes, No, Done}
-use Rattle.book_hosts.specs.declared.sts.Sts.{Sts}
-use Rattle.book_preflights.specs.declared.question.Lesson.{Lesson}
-use Rattle.book_preflights.specs.declared.question.Question.{Question}
+use Rattle.script_events.specs.Words.{Clear, Covers, Done, Learn, Lesson, Match, No, Note, Op, Question, Reply, Sts}
+use Rattle.script_events.specs.Words.{Text, Yes, flat_map}
 
 -- what an operation replied
 abbrev pub reply_text : Reply → Text

@@ -2,28 +2,12 @@
 -- length of the lines as they are printed (`law_event_length`).
 use Rattle.std.specs.Prelude.{ℕ, ◌+◌, ◌-◌, ◌^◌, Bool, true, false, List, [], ◌∷◌, length, min, sum_by, decimal}
 use Rattle.std.specs.Prelude.{Option, Some, None, if◌then◌else◌}
-use Rattle.value_text.specs.Texts.{Text}
-use Rattle.book_calls.specs.declared.op.Op.{Op}
-use Rattle.book_calls.specs.declared.op.Op.TheVariants.{Match, Note, Covers, Learn, Clear}
-use Rattle.book_calls.specs.declared.op.Reply.{Reply}
-use Rattle.book_calls.specs.declared.op.Reply.TheVariants.{Yes, No, Done}
-use Rattle.value_headers.specs.declared.headers.Header.{Header}
-use Rattle.book_hosts.specs.declared.sts.Sts.{Sts}
-use Rattle.book_preflights.specs.declared.question.Lesson.{Lesson}
-use Rattle.book_preflights.specs.declared.question.Question.{Question}
-use Rattle.value_requests.specs.declared.error.NetError.{NetError}
-use Rattle.value_requests.specs.declared.error.NetError.TheVariants.{PreflightHeader}
-use Rattle.value_requests.specs.declared.fault.TypeFault.{TypeFault}
-use Rattle.value_requests.specs.declared.fault.TypeFault.TheVariants.{BadHeader}
-use Rattle.value_requests.specs.declared.hop.Hop.{Hop}
-use Rattle.value_requests.specs.declared.policy.Violation.{Violation}
-use Rattle.value_requests.specs.declared.response.BodyEnd.{BodyEnd}
 use Rattle.value_requests.specs.declared.response.BodyEnd.TheVariants as body
-use Rattle.value_requests.specs.declared.response.Outcome.{Outcome}
 use Rattle.value_requests.specs.declared.response.Outcome.TheVariants as outcome
-use Rattle.value_requests.specs.declared.response.Response.{Response}
-use Rattle.value_requests.specs.Errors.{error_number, error_name, fault_number, fault_name}
-use Rattle.value_requests.specs.Names.{destination_name, directive_name, kind_name}
+use Rattle.script_events.specs.Words.{BadHeader, BodyEnd, Clear, Covers, Done, Header, Hop, Learn, Lesson, Match}
+use Rattle.script_events.specs.Words.{NetError, No, Note, Op, Outcome, PreflightHeader, Question, Reply, Response, Sts}
+use Rattle.script_events.specs.Words.{Text, TypeFault, Violation, Yes, destination_name, directive_name, error_name}
+use Rattle.script_events.specs.Words.{error_number, fault_name, fault_number, kind_name}
 use Rattle.script_events.specs.declared.events.Event.{Event}
 use Rattle.script_events.specs.declared.events.Event.TheVariants as event
 use Rattle.script_events.specs.Escapes.{is_plain}

@@ -5,3 +5,4 @@ pub mod Kept
 pub mod Laws
 pub mod Lengths
 pub mod Lines
+pub mod Words

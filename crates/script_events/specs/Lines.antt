@@ -1,21 +1,10 @@
 -- The printed lines of an event of a document's run (the output of `fetchplay play`).
 use Rattle.std.specs.Prelude.{Bool, true, false, List, [], ◌++◌, length, codes, decimal, Option, Some, None}
-use Rattle.std.specs.List.{flat_map}
-use Rattle.value_text.specs.Texts.{Text}
-use Rattle.value_headers.specs.declared.headers.Header.{Header}
-use Rattle.value_requests.specs.declared.error.NetError.{NetError}
-use Rattle.value_requests.specs.declared.error.NetError.TheVariants.{PreflightHeader}
-use Rattle.value_requests.specs.declared.fault.TypeFault.{TypeFault}
-use Rattle.value_requests.specs.declared.fault.TypeFault.TheVariants.{BadHeader}
-use Rattle.value_requests.specs.declared.hop.Hop.{Hop}
-use Rattle.value_requests.specs.declared.policy.Violation.{Violation}
-use Rattle.value_requests.specs.declared.response.BodyEnd.{BodyEnd}
 use Rattle.value_requests.specs.declared.response.BodyEnd.TheVariants as body
-use Rattle.value_requests.specs.declared.response.Outcome.{Outcome}
 use Rattle.value_requests.specs.declared.response.Outcome.TheVariants as outcome
-use Rattle.value_requests.specs.declared.response.Response.{Response}
-use Rattle.value_requests.specs.Errors.{error_number, error_name, fault_number, fault_name}
-use Rattle.value_requests.specs.Names.{destination_name, directive_name, kind_name}
+use Rattle.script_events.specs.Words.{BadHeader, BodyEnd, Header, Hop, NetError, Outcome, PreflightHeader, Response}
+use Rattle.script_events.specs.Words.{Text, TypeFault, Violation, destination_name, directive_name, error_name}
+use Rattle.script_events.specs.Words.{error_number, fault_name, fault_number, flat_map, kind_name}
 use Rattle.script_events.specs.Calls.{call_text}
 use Rattle.script_events.specs.declared.events.Event.{Event}
 use Rattle.script_events.specs.declared.events.Event.TheVariants as event

@@ -1,21 +1,12 @@
 -- The scenario of `fetchplay gen N`: documents that each have a key of their own, and ask one server for the same again
 -- and again (this project's own).
 use Rattle.std.specs.Prelude.{ℕ, true, false, [], ◌∷◌, ◌++◌, map, codes, decimal, Some, None}
-use Rattle.std.specs.List.{range_with_len}
-use Rattle.url.specs.declared.host.Host.TheVariants.{Domain}
-use Rattle.url.specs.Parts.{Parts}
-use Rattle.value_text.specs.Texts.{Text}
-use Rattle.value_requests.specs.declared.init.Init.{Init}
-use Rattle.value_requests.specs.declared.init.Pair.{Pair}
 use Rattle.value_requests.specs.declared.mode.Credentials.TheVariants as credentials
 use Rattle.value_requests.specs.declared.mode.Mode.TheVariants as mode
 use Rattle.value_requests.specs.declared.mode.RedirectMode.TheVariants as redirect
 use Rattle.value_requests.specs.declared.mode.ReferrerPolicy.TheVariants as policy
-use Rattle.script_commands.specs.Scripts.{fetch, wait, repeat, Steps, no_steps, step}
-use Rattle.script_scenarios.specs.declared.servers.Rule.{Rule}
-use Rattle.script_scenarios.specs.declared.servers.Server.{Server}
-use Rattle.script_scenarios.specs.declared.document.Document.{Document}
-use Rattle.script_scenarios.specs.declared.scenario.Scenario.{Scenario}
+use Rattle.script_reading.specs.Words.{Document, Domain, Init, Pair, Parts, Rule, Scenario, Server, Steps, Text, fetch}
+use Rattle.script_reading.specs.Words.{no_steps, range_with_len, repeat, step, wait}
 use Rattle.script_reading.specs.Answers.{answer_bytes}
 
 -- ---- the server

@@ -1,16 +1,9 @@
 -- What the headers of a document say: its policies and its referrer policy (HTML, "create and initialize a Document
 -- object"; CSP 3, section 2.2, "parse a response's Content Security Policies"; Referrer Policy, section 8.1).
 use Rattle.std.specs.Prelude.{true, false, List, [], map, codes, if◌then◌else◌}
-use Rattle.std.specs.List.{flat_map}
-use Rattle.std.specs.Str.{str_eq_ignore_ascii_case}
-use Rattle.value_headers.specs.declared.headers.Header.{Header}
-use Rattle.value_headers.specs.Headers.{all_appended}
-use Rattle.policy_csp_text.specs.declared.policy.Policy.{Policy}
-use Rattle.policy_csp_text.specs.Policies.{policies_of}
-use Rattle.value_requests.specs.declared.init.Pair.{Pair}
-use Rattle.value_requests.specs.declared.mode.ReferrerPolicy.{ReferrerPolicy}
 use Rattle.value_requests.specs.declared.mode.ReferrerPolicy.TheVariants as policy
-use Rattle.value_requests.specs.ReferrerPolicies.{policy_of_header}
+use Rattle.script_reading.specs.Words.{Header, Pair, Policy, ReferrerPolicy, all_appended, flat_map, policies_of}
+use Rattle.script_reading.specs.Words.{policy_of_header, str_eq_ignore_ascii_case}
 
 -- the policies of a header: enforced ones, or report-only ones, where it is one of the two that have some
 abbrev pub policies_of_header : Pair → List Policy

@@ -5,3 +5,4 @@ pub mod Headers
 pub mod Migration
 pub mod Scenarios
 pub mod Urls
+pub mod Words

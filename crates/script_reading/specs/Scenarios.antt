@@ -2,35 +2,18 @@
 -- The keys of a table are listed and read in one order.
 use Rattle.std.specs.Prelude.{Bool, true, false, nat_le, List, [], ◌∷◌, length, codes, Option, Some, None}
 use Rattle.std.specs.Prelude.{option_and_then, Result, Ok, Err}
-use Rattle.serde_json.specs.Data.{Data}
-use Rattle.serde_json.specs.Read.{read}
-use Rattle.value_text.specs.Texts.{Text}
-use Rattle.value_text.specs.Tokens.{is_token}
-use Rattle.value_text.specs.Values.{is_header_value}
-use Rattle.policy_csp_text.specs.declared.policy.Policy.{Policy}
-use Rattle.value_requests.specs.declared.client.Cookie.{Cookie}
-use Rattle.value_requests.specs.declared.init.Pair.{Pair}
-use Rattle.value_requests.specs.declared.mode.ReferrerPolicy.{ReferrerPolicy}
 use Rattle.value_requests.specs.declared.mode.ReferrerPolicy.TheVariants as policy
-use Rattle.value_requests.specs.Urls.{utf8_text}
-use Rattle.link_routes.specs.declared.routes.Route.{Route}
-use Rattle.value_json.specs.Reading.{Read, ◌>>=◌, given, number_of, truth_of, text_that, any, some_of}
-use Rattle.value_json.specs.Reading.{has_key, only_keys, required, optional, items_of, list_of, pair_of}
-use Rattle.script_steps.specs.Scripts.{document_script_of}
-use Rattle.script_scenarios.specs.declared.hosts.KnownHost.{KnownHost}
-use Rattle.script_scenarios.specs.declared.servers.Rule.{Rule}
-use Rattle.script_scenarios.specs.declared.servers.Server.{Server}
-use Rattle.script_scenarios.specs.declared.document.Document.{Document}
-use Rattle.script_scenarios.specs.declared.scenario.Scenario.{Scenario}
+use Rattle.script_reading.specs.Words.{Cookie, Data, Document, KnownHost, Pair, Policy, Read, ReferrerPolicy, Route}
+use Rattle.script_reading.specs.Words.{Rule, Scenario, Server, Text, any, document_script_of, given, has_key}
+use Rattle.script_reading.specs.Words.{is_cookie_value, is_header_value, is_host_name, is_origin_text, is_token}
+use Rattle.script_reading.specs.Words.{items_of, list_of, number_of, only_keys, optional, pair_of, read, required}
+use Rattle.script_reading.specs.Words.{some_of, text_that, truth_of, utf8_text, ◌>>=◌}
 use Rattle.script_reading.specs.declared.place.Place.{Place}
 use Rattle.script_reading.specs.declared.format.Format.{Format}
 use Rattle.script_reading.specs.Formats.{format_of, number_of_format, root_keys, body_limit_of, most_documents}
 use Rattle.script_reading.specs.Formats.{document_keys, top_of}
 use Rattle.script_reading.specs.Headers.{policies_of_headers, policy_of_headers}
-use Rattle.script_scenarios.specs.Hosts.{is_host_name}
-use Rattle.value_requests.specs.OriginTexts.{is_origin_text}
 use Rattle.script_reading.specs.Answers.{answer_bytes}
-use Rattle.script_scenarios.specs.Texts.{is_cookie_value}
 use Rattle.script_reading.specs.Urls.{document_url_of}
 
 -- ---- known hosts

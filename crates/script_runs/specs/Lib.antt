@@ -3,3 +3,4 @@ pub mod Play
 pub mod Private
 pub mod Runs
 pub mod Traces
+pub mod Words

@@ -1,17 +1,8 @@
 -- A document's run as a tree: what it shows, the acts of its fetches, and its ending (this project's own; Fetch,
 -- section 5.6, where a script calls `fetch`).
 use Rattle.std.specs.Prelude.{ℕ, List, [], ◌∷◌, ◌++◌, Option, Some, None, if◌then◌else◌}
-use Rattle.fetch_acts.specs.declared.act.Act.{Act}
-use Rattle.fetch_acts.specs.declared.act.Act.TheVariants.{Ask, Send, ReadHead, ReadBody, Tell}
-use Rattle.fetch_acts.specs.declared.act.Input.{Input}
-use Rattle.fetch_acts.specs.declared.act.Input.TheVariants.{Replied}
-use Rattle.fetch_acts.specs.Process.{fits}
-use Rattle.book_calls.specs.declared.op.Reply.{Reply}
-use Rattle.book_calls.specs.declared.op.Reply.TheVariants.{Done}
-use Rattle.value_requests.specs.declared.request.Request.{Request}
-use Rattle.script_events.specs.declared.events.Ending.{Ending}
-use Rattle.script_events.specs.declared.events.Event.{Event}
-use Rattle.script_events.specs.declared.events.Event.TheVariants.{Call, Sent, Told}
+use Rattle.script_runs.specs.Words.{Act, Ask, Call, Done, Ending, Event, Input, ReadBody, ReadHead, Replied, Reply}
+use Rattle.script_runs.specs.Words.{Request, Send, Sent, Tell, Told, fits}
 
 -- A run is over, with an ending and the clock then; or it shows an event and goes on; or it acts for a
 -- request and goes on from the input that comes.

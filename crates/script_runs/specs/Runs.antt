@@ -2,34 +2,15 @@
 -- (Fetch, section 5.6, for each `fetch` of a script), its clock, and the limits at which a run ends early.
 use Rattle.std.specs.Prelude.{ℕ, zero, suc, ◌+◌, nat_le, nat_lt, List, [], ◌∷◌, ◌++◌, map, sum_by, Option, Some}
 use Rattle.std.specs.Prelude.{None, option_map, Result, Ok, Err, if◌then◌else◌}
-use Rattle.value_text.specs.Trims.{http_whitespace, trimmed}
-use Rattle.value_requests.specs.declared.client.Client.{Client}
-use Rattle.value_requests.specs.declared.client.Cookie.{Cookie}
-use Rattle.value_requests.specs.declared.fault.TypeFault.{TypeFault}
-use Rattle.value_requests.specs.declared.request.Request.{Request}
-use Rattle.value_requests.specs.declared.policy.Destination.{Destination}
 use Rattle.value_requests.specs.declared.policy.Destination.TheVariants as destination
-use Rattle.value_requests.specs.declared.response.Outcome.{Outcome}
 use Rattle.value_requests.specs.declared.response.Outcome.TheVariants as outcome
-use Rattle.value_requests.specs.Clients.{client_of}
-use Rattle.policy_csp_text.specs.declared.policy.Policy.{Policy}
-use Rattle.fetch_requests.specs.Loading.{new_load}
-use Rattle.fetch_requests.specs.Making.{new_request}
-use Rattle.script_commands.specs.declared.command.Test.{Test}
-use Rattle.script_commands.specs.Scripts.{Step, Steps}
 use Rattle.script_commands.specs.Scripts as script
-use Rattle.script_scenarios.specs.declared.document.Document.{Document}
-use Rattle.script_events.specs.declared.events.Ending.{Ending}
-use Rattle.script_events.specs.declared.events.Ending.TheVariants.{Finished, Fetches, Commands, Text}
-use Rattle.script_events.specs.declared.events.Event.{Event}
 use Rattle.script_events.specs.declared.events.Event.TheVariants as event
-use Rattle.script_events.specs.Lengths.{event_length}
-use Rattle.fetch_acts.specs.Process.{Process, ended, act}
-use Rattle.fetch_machine.specs.Fetch.{fetch}
-use Rattle.fetch_machine.specs.Then.{Context, context_of}
+use Rattle.script_runs.specs.Words.{Client, Commands, Context, Cookie, Destination, Document, Ending, Event, Fetches}
+use Rattle.script_runs.specs.Words.{Finished, Outcome, Policy, Process, Request, Step, Steps, Test, Text, TypeFault}
+use Rattle.script_runs.specs.Words.{act, client_of, context_of, ended, event_length, fetch, filled_init, filled_load}
+use Rattle.script_runs.specs.Words.{holds, http_whitespace, last_result, new_load, new_request, trimmed}
 use Rattle.script_runs.specs.Play.{Play, over, emit, step, events_of}
-use Rattle.script_filling.specs.Filled.{filled_init, filled_load}
-use Rattle.script_filling.specs.Results.{last_result, holds}
 
 -- What the fetches of a document have in common: its client, the document's policies, and the table of cookies.
 pub record Setting : Type 0 where

@@ -3,57 +3,17 @@
 use Rattle.std.specs.Prelude.{◌≡◌, ⊤, ℕ, ◌+◌, ◌<◌, ◌≤◌, nat_lt, Bool, true, false, ◌&&◌, ◌||◌, not}
 use Rattle.std.specs.Prelude.{List, [], ◌∷◌, length, map}
 use Rattle.std.specs.Prelude.{bytes_eq, codes, find, All, Contains, IsUtf8, Option, Some, None, Ok, if◌then◌else◌}
-use Rattle.std.specs.List.{join_with_byte, list_all, list_any}
-use Rattle.std.specs.Str.{str_to_ascii_lowercase}
-use Rattle.httparse.specs.Grammar.{is_uri_byte, is_value_byte}
-use Rattle.url.specs.Parts.{IsValid}
-use Rattle.value_text.specs.Texts.{Text}
-use Rattle.value_text.specs.Ascii.{comma}
-use Rattle.value_text.specs.Tokens.{is_token}
-use Rattle.value_text.specs.Wildcards.{authorization}
-use Rattle.value_headers.specs.declared.headers.Header.{Header}
-use Rattle.value_headers.specs.Headers.{contains}
-use Rattle.value_origins.specs.Origins.{is_origin_of, tuple_origin}
-use Rattle.value_requests.specs.declared.client.Cookie.{Cookie}
-use Rattle.value_requests.specs.declared.error.NetError.{NetError}
 use Rattle.value_requests.specs.declared.error.NetError.TheVariants as error
-use Rattle.value_requests.specs.declared.hop.Hop.{Hop}
-use Rattle.value_requests.specs.declared.init.Init.{Init}
-use Rattle.value_requests.specs.declared.mode.Mode.TheVariants.{Cors}
-use Rattle.value_requests.specs.declared.request.Request.{Request}
-use Rattle.value_requests.specs.declared.response.BodyEnd.{BodyEnd}
-use Rattle.value_requests.specs.declared.response.BodyEnd.TheVariants.{Null, TooBig, Whole}
-use Rattle.value_requests.specs.declared.response.Outcome.{Outcome}
-use Rattle.value_requests.specs.declared.response.Outcome.TheVariants.{Answer, Error}
 use Rattle.value_requests.specs.declared.response.ResponseKind.TheVariants as kind
-use Rattle.value_requests.specs.Modes.{is_include}
-use Rattle.value_requests.specs.Methods.{is_safelisted_method}
-use Rattle.value_requests.specs.Requests.{IsClient, current_url, is_http_url}
-use Rattle.policy_checks.specs.RequestOrigins.{serialized_request_origin}
-use Rattle.book_calls.specs.Book.{empty}
-use Rattle.book_calls.specs.Entries.{Legal}
-use Rattle.policy_safelist.specs.UnsafeNames.{unsafe_names}
-use Rattle.fetch_requests.specs.Making.{new_request}
-use Rattle.fetch_acts.specs.declared.act.Input.{Input}
-use Rattle.fetch_acts.specs.Process.{ended}
-use Rattle.fetch_rules.specs.Blocking.{refusal_before}
-use Rattle.fetch_rules.specs.Switch.{needs_preflight}
-use Rattle.fetch_machine.specs.Fetch.{fetch}
-use Rattle.fetch_machine.specs.Then.{Context}
-use Rattle.link_http1.specs.Blocks.{is_line_byte}
-use Rattle.link_http1.specs.Heads.{most_lines}
-use Rattle.link_http1.specs.RequestHeads.{IsRead}
-use Rattle.link_http1.specs.Requests.{request_bytes}
-use Rattle.link_http1.specs.declared.request_head.Asked.{Asked}
-use Rattle.fetch_wire.specs.Exchanges.{Answering, is_fault}
-use Rattle.script_events.specs.declared.events.Event.{Event}
-use Rattle.script_events.specs.declared.events.Event.TheVariants.{Sent}
-use Rattle.play_definitions.specs.Driving.{LeadsOn}
-use Rattle.play_definitions.specs.Worlds.{World}
-use Rattle.server_tables.specs.Reading.{may_be_listed, most_in_line, table_of}
-use Rattle.server_tables.specs.Served.{IsServed}
-use Rattle.server_tables.specs.Tables.{allows, lists, row_of}
-use Rattle.server_tables.specs.declared.table.Row.{Row}
+use Rattle.server_access.specs.Words.{Answer, Answering, Asked, BodyEnd, Context, Cookie, Cors, Error, Event, Header}
+use Rattle.server_access.specs.Words.{Hop, Init, Input, IsClient, IsRead, IsServed, IsValid, LeadsOn, Legal, NetError}
+use Rattle.server_access.specs.Words.{Null, Outcome, Request, Row, Sent, Text, TooBig, Whole, World, allows}
+use Rattle.server_access.specs.Words.{authorization, comma, contains, current_url, empty, ended, fetch, is_fault}
+use Rattle.server_access.specs.Words.{is_http_url, is_include, is_line_byte, is_origin_of, is_safelisted_method}
+use Rattle.server_access.specs.Words.{is_token, is_uri_byte, is_value_byte, join_with_byte, list_all, list_any, lists}
+use Rattle.server_access.specs.Words.{may_be_listed, most_in_line, most_lines, needs_preflight, new_request}
+use Rattle.server_access.specs.Words.{refusal_before, request_bytes, row_of, serialized_request_origin}
+use Rattle.server_access.specs.Words.{str_to_ascii_lowercase, table_of, tuple_origin, unsafe_names}
 
 -- ---- the server
 

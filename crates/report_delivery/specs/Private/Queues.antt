@@ -1,14 +1,6 @@
 -- The reports that a queue still has to give (private contracts).
 use Rattle.std.specs.Prelude.{◌≡◌, List, [], ◌∷◌, ◌++◌, Option, Some, None}
-use Rattle.std.specs.Borrow.{Bor}
-use Rattle.std.specs.List.{filter_map}
-use Rattle.url.specs.Parts.{Parts}
-use Rattle.script_events.specs.declared.events.Event.{Event}
-use Rattle.script_scenarios.specs.declared.document.Document.{Document}
-use Rattle.value_requests.specs.declared.policy.Violation.{Violation}
-use Rattle.value_requests.specs.declared.request.Request.{Request}
-use Rattle.value_text.specs.Texts.{Text}
-use Rattle.value_text.specs.Words.{words}
+use Rattle.report_delivery.specs.Words.{Bor, Document, Event, Parts, Request, Text, Violation, filter_map, words}
 use Rattle.report_delivery.specs.declared.queue.Queue.{Queue}
 use Rattle.report_delivery.specs.Reports.{endpoint_of, report_requests, reports_to, violations_told}
 
