@@ -1,11 +1,11 @@
 #!/usr/bin/env bash
 # What the gate costs from nothing, on a machine that does nothing else.
 #
-#     bench/gate.sh                           these files: all of `rt ci`
-#     bench/gate.sh against COMMIT            that commit and these files, and the ratio
+#     bench/gate.sh                           these files: first `fetchplay` without edits, then all of `rt ci`
+#     bench/gate.sh against COMMIT            that commit and these files, and the ratios
 #     bench/gate.sh against COMMIT in STEPS   the same in so many steps: a part of the one's crates, then of the other's,
 #                                             so that a run that is cut off tells the ratio of what it came to
-#     bench/gate.sh fetchplay against COMMIT  the wall time in which each proves and builds `fetchplay`, without edits
+#     bench/gate.sh fetchplay against COMMIT  the first part alone
 #
 # It tells processor time (user and system) and wall time, and of these files how the processor time is shared among the
 # crates, and among their proofs, their tests and the edits that must fail, in seconds. The shares are read off the
@@ -56,9 +56,8 @@ checks() {
 }
 
 sampled() {
-    while :; do
-        checks >>"$work/samples"
-        sleep 1
+    while sleep 1; do
+        [ ! -e "$work/counted" ] || checks >>"$work/samples"
     done
 }
 
@@ -82,14 +81,27 @@ timed() {
     echo "$user $system $start $(date +%s.%N)" >>"$1.times"
 }
 
+# What the runs of one or both took, and the ratios.
 told() {
-    awk -v name="$2" '{ cpu += $1 + $2; wall += $4 - $3 }
-        END { printf "%s: processor time %.1f minutes, wall time %.1f minutes\n", name, cpu / 60, wall / 60 }' "$1.times"
+    local tree
+    for tree in $trees; do
+        awk -v name="$1, $tree" '{ cpu += $1 + $2; wall += $4 - $3 }
+            END { printf "%s: processor time %.1f minutes, wall time %.1f minutes\n", name, cpu / 60, wall / 60 }' "$work/$tree.times"
+    done
+    [ -z "$against" ] || awk -v name="$1" 'FNR == 1 { at++ } { cpu[at] += $1 + $2; wall[at] += $4 - $3 }
+        END { printf "%s, ratio: processor time %.3f, wall time %.3f\n", name, cpu[2] / cpu[1], wall[2] / wall[1] }' \
+        "$work/those.times" "$work/these.times"
 }
 
-ratio() {
-    awk 'FNR == 1 { at++ } { cpu[at] += $1 + $2; wall[at] += $4 - $3 }
-        END { printf "ratio: processor time %.3f, wall time %.3f\n", cpu[2] / cpu[1], wall[2] / wall[1] }' "$1.times" "$2.times"
+# Runs `rt ci` in each tree, on the crates of a step or on all.
+step() {
+    local tree
+    for tree in $trees; do
+        rm -f "$work/counted"
+        [ "$tree" != these ] || touch "$work/counted"
+        # shellcheck disable=SC2046 # (words)
+        timed "$work/$tree" $([ "$1" = all ] || sed -n "${1}p" "$work/$tree.groups")
+    done
 }
 
 shares() {
@@ -98,7 +110,7 @@ shares() {
         END { for (p in most) { sum[name[p]] += most[p]; by[name[p] " " kind[p]] += most[p]; all[kind[p]] += most[p] }
             for (k in all) printf "all %s: %d\n", k, all[k]
             for (n in sum) printf "%s: %d (proofs %d, tests %d, edits %d)\n", n, sum[n],
-                by[n " proofs"], by[n " tests"], by[n " edits"] }' "$work/samples" | sort
+                by[n " proofs"], by[n " tests"], by[n " edits"] }' "$work/samples" | sort -t : -k 2nr
 }
 
 only= against= steps=1
@@ -118,24 +130,33 @@ if [ -n "$against" ]; then
     git -C "$work/clone" checkout -q "$against"
     laid "$work/clone" "$work/those"
 fi
-if [ -n "$only" ]; then
-    rm -rf "$work"/th*se/crates/*/must-fail
-fi
-for tree in these ${against:+those}; do
-    if [ -n "$only" ]; then echo "$only"; elif [ "$steps" = 1 ]; then echo; else groups "$work/$tree" "$steps"; fi >"$work/$tree.groups"
+trees=these
+[ -z "$against" ] || trees='those these'
+sampled &
+sampler=$!
+trap 'kill "$sampler"; rm -rf "$work"' EXIT
+
+# First `fetchplay`, without edits.
+for tree in $trees; do
+    (cd "$work/$tree" && for edits in crates/*/must-fail; do
+        mkdir -p "edits/${edits%/*}"
+        mv "$edits" "edits/$edits"
+    done)
+    echo fetchplay >"$work/$tree.groups"
 done
-for step in $(seq "$(wc -l <"$work/these.groups")"); do
-    if [ -n "$against" ]; then
-        # shellcheck disable=SC2046 # (words)
-        timed "$work/those" $(sed -n "${step}p" "$work/those.groups")
-    fi
-    sampled &
-    sampler=$!
-    # shellcheck disable=SC2046
-    timed "$work/these" $(sed -n "${step}p" "$work/these.groups") || { kill "$sampler" && exit 1; }
-    kill "$sampler"
-    [ -z "$against" ] || ratio "$work/those" "$work/these"
+step 1
+told fetchplay
+[ -z "$only" ] || exit 0
+
+# Then the others and the edits.
+for tree in $trees; do
+    (cd "$work/$tree/edits" && for edits in crates/*/must-fail; do mv "$edits" "../$edits"; done)
+    rm -r "$work/$tree/edits"
+    groups "$work/$tree" "$steps" >"$work/$tree.groups"
 done
-[ -z "$against" ] || told "$work/those" "$against"
-told "$work/these" 'these files'
+for number in $(seq "$steps"); do
+    [ "$steps" != 1 ] || number=all
+    step "$number"
+    told "all, as far as it came"
+done
 shares
