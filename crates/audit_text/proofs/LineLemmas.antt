@@ -111,9 +111,6 @@ lined-more lines text rest =
     ∙ ap (λ (l : List ℕ). lined lines ++ l) (append-nil (line text)))
     ∙ append_assoc (lined lines) (line text) rest
 
-pub passes-none : (play : List ℕ) → Passes play play
-passes-none play = record { before = []; others = All-nil IsOther; text_is = refl }
-
 pub passes-more : (play rest first after : List ℕ) → Passes play rest → IsCut rest first after → first ≢ heading
     → Passes play after
 passes-more play rest first after passed is other = record {

@@ -1,4 +1,4 @@
--- What the clears and the redirects of a level come to, and that a step is what the runs of its process are.
+-- What the clears and the redirects of a level come to.
 use Rattle.std.proofs.Common.{◌≡◌, ℕ, zero, suc, Bool, true, false, ◌+◌, ◌-◌, ◌<◌, Ok, Err, refl, ap, sym, ◌∙◌}
 use Rattle.std.proofs.Common.{arith, cond, inl, inr, length, subst}
 use Rattle.std.proofs.Common.{List, [], ◌∷◌, Some, Result}

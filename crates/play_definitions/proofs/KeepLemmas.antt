@@ -3,14 +3,10 @@ use Rattle.std.specs.Borrow.{Bor}
 use Rattle.book_calls.specs.Accounts.{Account}
 use Rattle.play_definitions.specs.declared.lent.Lent.{Lent}
 use Rattle.play_definitions.specs.declared.player.Player.{Player}
-use Rattle.play_definitions.proofs.Words.{ℕ, ◌+◌, ◌∙◌, ◌≡◌, ◌≤◌, Keeps, KeepsPass, refl, rules, subst, terms_of}
+use Rattle.play_definitions.proofs.Words.{ℕ, ◌+◌, ◌≡◌, ◌≤◌, Keeps, KeepsPass, refl, subst, terms_of}
 
 module _ {R S L P : Type 0} {account : P → Account} {belongs : S → P → Type 0} where
-  pub keeps-then : {a b c : Player R S L P} → Keeps account belongs a b → Keeps account belongs b c
-      → Keeps account belongs a c
-  keeps-then x y = search (rules, ◌∙◌)
-
-  -- so a run goes by the same still
+  -- a run goes by the same still
   pub same-terms : {a b : Player R S L P} → Keeps account belongs a b → terms_of account b ≡ terms_of account a
   same-terms x = rw (x.lent, x.document) refl
 

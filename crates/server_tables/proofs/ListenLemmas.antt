@@ -1,13 +1,13 @@
 -- Bytes that come, and the blocks in them.
 use Rattle.std.proofs.Common.{◌≡◌, ◌∙◌, ap, sym, refl, subst, ℕ, ◌+◌, ◌≤◌, ◌<◌, min, Bool, true, false, ◌||◌, arith}
-use Rattle.std.proofs.Common.{List, [], ◌++◌, append_assoc, length, length-append, take, drop, Option, Some, None}
+use Rattle.std.proofs.Common.{List, ◌++◌, length, length-append, take, drop, Option, Some, None}
 use Rattle.std.proofs.Common.{true≢false, get_or, nat_le, is_some, inl, inr}
 use Rattle.std.proofs.Math.Seq.{take-append_seam}
 use Rattle.std.proofs.lemmas.Bool.{leb-false, leb-true}
 use Rattle.std.proofs.lemmas.List.{length-take, take-append-drop, take-append-le, take_min}
 use Rattle.std.proofs.lemmas.List.Folds.{list_any_more}
 use Rattle.std.specs.List.{list_any}
-use Rattle.link_traits.proofs.SourceLemmas.{gave-nothing}
+use Rattle.link_traits.proofs.SourceLemmas.{gave-again}
 use Rattle.httparse.specs.Grammar.{print_request, RequestHead}
 use Rattle.link_traits.specs.Counts.{Rose}
 use Rattle.link_traits.specs.Sinks.{SinkTold}
@@ -23,20 +23,11 @@ use Rattle.server_tables.specs.declared.listen.Search.{Search}
 
 -- ---- what a peer gave
 
-gave-both : (a b c : Option (List ℕ)) (xs ys : List ℕ) → Gave a b xs → Gave b c ys → Gave a c (xs ++ ys)
-gave-both None b c xs ys one two = tt
-gave-both (Some old) b c xs ys one two =
-    let next = subst (λ (o : Option (List ℕ)). Gave o c ys) one.1 two in
-    (next.0, next.1, one.2 ∙ ap (λ (l : List ℕ). xs ++ l) next.2 ∙ sym (append_assoc xs ys next.0))
-
 pub gives-both : (a b c : PeerTold) (xs ys : List ℕ) → Gives a b xs → Gives b c ys → Gives a c (xs ++ ys)
 gives-both a b c xs ys one two = record {
-  gave = gave-both a.source.left b.source.left c.source.left xs ys one.gave two.gave;
+  gave = gave-again a.source.left b.source.left c.source.left xs ys (xs ++ ys) one.gave two.gave refl;
   sink = two.sink ∙ one.sink;
 }
-
-pub gives-none : (a : PeerTold) → Gives a a []
-gives-none a = record { gave = gave-nothing a.source.left; sink = refl }
 
 -- By what a peer tells:
 module _ {P : Type 0} (gives : P → SourceTold) (takes : P → SinkTold) (beside : P → SinkTold)
