@@ -1,27 +1,21 @@
-// Reads rows of the wire (`wire.rt`) and of operations on a book (`books.rt`), one a line of the input, and prints what
-// each comes to. Then it makes calls on a book: on one that nobody shares, by one pass, by two passes and by two
-// threads. Prints what they come to, and the histories. A line that begins with `#` is a title, which is printed as it
-// is, and so is an empty line.
+// Reads rows of the wire (`wire.rt` of `rows_wire`) and of operations on a book (`books.rt`), one a line of the input,
+// and prints what each comes to. Then it makes calls on a book: on one that nobody shares, by one pass, by two passes
+// and by two threads. Prints what they come to, and the histories. A line that begins with `#` is a title, which is
+// printed as it is, and so is an empty line.
 #![tactic(auto)]
 
 mod alone;
-mod answer;
 mod books;
-mod cut;
-mod device;
-mod link;
 mod ops;
 mod passes;
 mod questions;
-mod reading;
-mod request;
 mod threads;
 mod turns;
-mod wire;
 
 use crate::ops::KINDS;
 use book_calls::Book;
 use rows_shell::{Failed, Lines, Row, Shown, named, play, print_text};
+use rows_wire::show_row;
 use std::alloc::Global;
 use std::process::ExitCode;
 use std::sync::Wait;
@@ -38,7 +32,7 @@ impl Lines for Rows {
         let words = Row::of(alloc, line.as_bytes(), b' ')?;
         match named(&KINDS, words.text(0)) {
             Ok(kind) => books::answer(alloc, &mut self.book, kind, &words, shown),
-            Err(_) => wire::answer(alloc, line.as_bytes(), shown),
+            Err(_) => show_row(alloc, line.as_bytes(), shown),
         }
     }
 }

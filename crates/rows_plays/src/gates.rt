@@ -8,18 +8,13 @@
 // Then the second link waits until the first document has sent its PUT, which its preflight has taught the book
 // before. So the second document's PUT is covered, and has no preflight of its own, only where they share the book.
 // These links are made only where the scenario's routes reach what makes them.
-use crate::histories::show_count;
-use crate::streams::{Streams, words_of};
-use crate::waiting::{Asked, Manner, WaitingLinks};
+use crate::runs;
+use rows_fetches::TWO_DOCUMENTS;
+use rows_links::{Asked, Manner, Streams, WaitingLinks, show_count, waiting_for, words_of};
 use rows_shell::{Failed, Shown, texts_between};
 use std::alloc::Global;
 use std::sync::Wait;
 use std::thread::Threads;
-
-/// Two documents, each of which asks the book whether b.test is known, and fetches its page.
-pub(crate) const SCENARIO: &[u8] = b"{\"format\":1,\"documents\":[\
-    {\"url\":\"http://a.test/\",\"script\":[{\"fetch\":{\"url\":\"http://b.test/\"}}]},\
-    {\"url\":\"http://d.test/\",\"script\":[{\"fetch\":{\"url\":\"http://b.test/\"}}]}]}";
 
 /// Five documents, each of which fetches the same page.
 const CROWD: &[u8] = b"{\"format\":1,\"documents\":[\
@@ -44,16 +39,6 @@ const TAUGHT: Manner = Manner {
     address: b"127.0.0.1:8080",
 };
 
-// Each of so many documents waits for all.
-pub(crate) fn waiting_for(count: usize) -> Manner {
-    Manner {
-        method: b"",
-        first: count,
-        others: count,
-        address: b"",
-    }
-}
-
 // Plays the documents of a scenario over links.
 fn play_over<R: Threads + Wait + Sync>(
     rt: &R,
@@ -66,7 +51,15 @@ fn play_over<R: Threads + Wait + Sync>(
     let mut streams = Streams::of(alloc, b"", scenario)?;
     let asked = Asked::none();
     let mut links = WaitingLinks::new(&asked, manner);
-    streams.play(rt, alloc, words.as_slice(), &mut links, 0, shown);
+    runs::play(
+        rt,
+        alloc,
+        words.as_slice(),
+        &mut streams,
+        &mut links,
+        0,
+        shown,
+    );
     let lines = texts_between(alloc, streams.output(), b'\n')?;
     show_count(lines.as_slice(), b"calls ", shown);
     Ok(())
@@ -78,7 +71,7 @@ pub(crate) fn play<R: Threads + Wait + Sync + AllocGlobal>(
     shown: &mut Shown,
 ) -> Result<(), Failed> {
     let alloc = rt.alloc();
-    play_over(rt, alloc, SCENARIO, waiting_for(2), shown)?;
+    play_over(rt, alloc, TWO_DOCUMENTS, waiting_for(2), shown)?;
     shown.add(b"\n");
     play_over(rt, alloc, CROWD, waiting_for(5), shown)?;
     shown.add(b"\n");

@@ -3,40 +3,32 @@
 //
 //     a scenario, or some words, a tab and a scenario: it is played by the program's top call, or by those that report
 //     or audit. `rows.rt` says how.
-//     `url=URL ..`, a tab and what a request meets: it is fetched by itself. `requests.rt` says how.
+//     `url=URL ..`, a tab and what a request meets: it is fetched by itself. `requests.rt` of `rows_fetches` says how.
 //     `{ .. }`, a tab and what a document meets: the lines of this kind up to an empty line are played over one book.
-//     `links.rt` says how.
+//     `documents.rt` of `rows_fetches` says how.
 //     `net=TIME`, a tab and a scenario, and after it lines that begin with `link`, up to an empty line: it is played
 //     by the top call with the word `net`. `net.rt` says how.
-//     a word of `access.rt`, a tab and texts: a CORS server that answers by an allow table, and documents that ask it.
+//     `program`, a tab and texts: a run of the server that answers by an allow table. `servers.rt` says how.
+//     a word of `access.rt` of `rows_fetches`, a tab and texts: such a server by itself, and documents that ask it.
 //
 // Before them it plays documents on threads, over links that wait for each other: `gates.rt` by the top call,
-// `seats.rt` by `play_all` itself.
+// `seats.rt` of `rows_fetches` by `play_all` itself.
 #![tactic(auto)]
 
-mod access;
-mod fetches;
 mod gates;
-mod histories;
-mod inits;
-mod links;
 mod net;
 mod reports;
-mod requests;
 mod rows;
-mod seats;
+mod runs;
 mod servers;
-mod serving;
-mod slow;
-mod streams;
-mod tables;
-mod waiting;
 
+use rows_fetches::{kind_of, play_access, play_group, play_on_seats, play_request};
 use rows_shell::{Failed, Shown, is_title, print_text};
 use std::io;
 use std::process::ExitCode;
 use std::sync::Wait;
 use std::thread::Threads;
+use value_text::before_byte;
 
 // Plays the lines of a group.
 fn play_together<R: Threads + Wait + Sync + AllocGlobal>(
@@ -47,7 +39,7 @@ fn play_together<R: Threads + Wait + Sync + AllocGlobal>(
     match lines {
         [first, rest @ ..] => match first.strip_prefix("net=") {
             Some(row) => net::play(rt, row, rest, shown),
-            None => links::play(rt, lines, shown),
+            None => play_group(rt, lines, shown),
         },
         [] => Ok(()),
     }
@@ -60,14 +52,17 @@ fn stands_together(line: &str) -> bool {
         || (line.starts_with('{') && line.contains('\t'))
 }
 
-// Plays a row of access, or of a program.
+// Plays a row of a server, or of another program.
 fn play_row<R: Threads + Wait + Sync + AllocGlobal>(
     rt: &R,
     line: &str,
     shown: &mut Shown,
 ) -> Result<(), Failed> {
-    match access::kind_of(line.as_bytes()) {
-        Ok(kind) => access::play(rt, kind, line.as_bytes(), shown),
+    if before_byte(line.as_bytes(), b'\t') == b"program".as_slice() {
+        return servers::play(rt.alloc(), line.as_bytes(), shown);
+    }
+    match kind_of(line.as_bytes()) {
+        Ok(kind) => play_access(rt, kind, line.as_bytes(), shown),
         Err(_) => rows::play(rt, line, shown),
     }
 }
@@ -83,7 +78,7 @@ fn play_alone<R: Threads + Wait + Sync + AllocGlobal>(
         shown.add(b"\n");
         Ok(())
     } else if line.starts_with("url=") {
-        requests::play(rt, line, shown)
+        play_request(rt, line, shown)
     } else {
         play_row(rt, line, shown)
     }
@@ -137,7 +132,7 @@ fn play_all<R: Threads + Wait + Sync + AllocGlobal>(
 ) -> Result<(), Failed> {
     gates::play(rt, shown)?;
     shown.add(b"\n");
-    seats::play(rt, shown)
+    play_on_seats(rt, shown)
 }
 
 // Plays the documents on threads.

@@ -1,35 +1,14 @@
 // A scenario that is played by the program's top call with the word `net`, from a time on. Each of the lines after it
-// begins with `link` and has the link of the next document, as `links.rt` says. Shown are the status, each link that
-// was taken back, how often all failed, what was complained, and what was written.
-use crate::links::{link_in, tell};
-use crate::streams::{Streams, words_of};
+// begins with `link` and has the link of the next document, as `links.rt` of `rows_links` says. Shown are the status,
+// each link that was taken back, how often all failed, what was complained, and what was written.
+use crate::runs;
 use link_routes::MemoryLinks;
-use rows_shell::{Failed, Held, Shown, number};
+use rows_links::{Streams, links_in, show_links, words_of};
+use rows_shell::{Failed, Shown, number};
 use std::alloc::Global;
 use std::sync::Wait;
 use std::thread::Threads;
 use value_text::{after_byte, before_byte};
-
-// The links of rows, in order.
-fn links_of(alloc: Global, rows: &[&str]) -> Result<Held<MemoryLinks>, Failed> {
-    let mut links = Vec::new(alloc);
-    for row in rows {
-        links.push(link_in(alloc, row)?)?;
-    }
-    Ok(Held {
-        value: MemoryLinks::new(alloc, links)?,
-    })
-}
-
-// Each link that was taken back, and how often all failed.
-fn tell_all(links: &MemoryLinks, shown: &mut Shown) {
-    for link in links.taken_back() {
-        tell(link, shown);
-    }
-    shown.add(b"links failed ");
-    shown.add_number(links.faults());
-    shown.add(b"\n");
-}
 
 // Plays a scenario over links.
 fn play_over<R: Threads + Wait + Sync>(
@@ -42,8 +21,16 @@ fn play_over<R: Threads + Wait + Sync>(
 ) -> Result<(), Failed> {
     let words = words_of(alloc, b"net")?;
     let mut streams = Streams::of(alloc, b"", scenario)?;
-    streams.play(rt, alloc, words.as_slice(), links, now, shown);
-    tell_all(links, shown);
+    runs::play(
+        rt,
+        alloc,
+        words.as_slice(),
+        &mut streams,
+        links,
+        now,
+        shown,
+    );
+    show_links(links, shown);
     shown.add(streams.complaints());
     shown.add(streams.output());
     Ok(())
@@ -63,7 +50,7 @@ pub(crate) fn play<R: Threads + Wait + Sync + AllocGlobal>(
         return Err(Failed);
     }
     let now = number(digits, u64::MAX)?;
-    let mut links = links_of(alloc, rows)?;
+    let mut links = links_in(alloc, rows)?;
     play_over(
         rt,
         alloc,

@@ -1,69 +1,14 @@
-// The programs that play a scenario with its reports and that audit a play, and the reports as requests.
-use crate::links::scenario_in;
-use crate::streams::{Streams, show_status};
+// The reports of a scenario's documents as requests.
 use play_whole::play_scripted;
-use program_cspreport::cspreport;
-use program_playaudit::playaudit;
 use report_delivery::report_requests;
-use rows_shell::{Failed, Shown, unescaped};
+use rows_fetches::scenario_in;
+use rows_shell::{Failed, Shown};
 use script_events::Transcript;
 use script_scenarios::Scenario;
 use std::alloc::Global;
 use std::sync::Wait;
 use std::thread::Threads;
 use value_requests::Request;
-use value_text::{Bytes, after_byte, before_byte};
-
-// The input of an audit: a scenario and a play in their frame, or nothing.
-pub(crate) fn framed(alloc: Global, written: &[u8]) -> Result<Bytes, Failed> {
-    let mut bytes = Shown::new(alloc);
-    if !written.is_empty() {
-        let scenario = before_byte(written, b'\t');
-        bytes.add_count(b"", scenario.len());
-        bytes.add(b"\n");
-        bytes.add(scenario);
-        bytes.add(unescaped(alloc, after_byte(written, b'\t'))?.as_slice());
-    }
-    bytes.into_bytes()
-}
-
-// Runs `playaudit` with these words, and shows the number of its status.
-pub(crate) fn audit<R: Threads + Wait + Sync>(
-    rt: &R,
-    alloc: Global,
-    words: &[String],
-    streams: &mut Streams,
-    shown: &mut Shown,
-) {
-    let status = playaudit(
-        rt,
-        alloc,
-        words,
-        &mut streams.input.value,
-        &mut streams.output.value,
-        &mut streams.complaints.value,
-    );
-    show_status(status.number(), shown);
-}
-
-// Runs `cspreport` with these words, and shows the number of its status.
-pub(crate) fn report<R: Threads + Wait + Sync>(
-    rt: &R,
-    alloc: Global,
-    words: &[String],
-    streams: &mut Streams,
-    shown: &mut Shown,
-) {
-    let status = cspreport(
-        rt,
-        alloc,
-        words,
-        &mut streams.input.value,
-        &mut streams.output.value,
-        &mut streams.complaints.value,
-    );
-    show_status(status.number(), shown);
-}
 
 // Shows a request: its method, its URL and its body.
 fn show_request(request: &Request, shown: &mut Shown) {

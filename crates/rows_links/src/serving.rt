@@ -25,7 +25,7 @@ const PIECE: usize = 4_096;
 /// How often they are read at most.
 const MOST_READS: usize = 64;
 
-// How many bytes a word says, as many as a peer takes at most where it does not.
+// How many bytes the word `NAME=N` says, 65,536 at most and where there is no such word.
 pub(crate) fn bytes_of(words: &[u8], name: &[u8]) -> Result<usize, Failed> {
     match value_of(words, name) {
         [] => Ok(ROOM),
@@ -78,8 +78,9 @@ fn serve_by(alloc: Global, table: &AllowTable, words: &[u8], slow: &mut SlowEnd)
     }
 }
 
-// What serving the peer of a row comes to.
-pub(crate) fn served(alloc: Global, row: &Row, shown: &mut Shown) -> Result<(), Failed> {
+/// Shows what serving the peer of a row comes to: its texts are the word of its kind, a table, the words above, and the
+/// request that the peer sends.
+pub fn show_served(alloc: Global, row: &Row, shown: &mut Shown) -> Result<(), Failed> {
     let table = table_in(alloc, row.text(1))?;
     let mut slow = end_of(alloc, row.text(2), row.text(3))?;
     add_served(serve_by(alloc, &table, row.text(2), &mut slow), shown);

@@ -24,13 +24,13 @@ const MOST: usize = 5;
 
 /// Which documents have asked.
 #[derive(Drop)]
-pub(crate) struct Asked {
+pub struct Asked {
     flags: [AtomicBool; MOST],
 }
 
 impl Asked {
-    // None of them.
-    pub(crate) fn none() -> Asked {
+    /// None of them.
+    pub fn none() -> Asked {
         Asked {
             flags: [
                 AtomicBool::new(false),
@@ -75,16 +75,26 @@ impl Asked {
 /// document gives its answers once the first so many documents have asked, and those of the others once so many have.
 /// They are made only where a route of the scenario has this address, if it is not empty.
 #[derive(Clone, Copy)]
-pub(crate) struct Manner {
-    pub(crate) method: &'static [u8],
-    pub(crate) first: usize,
-    pub(crate) others: usize,
-    pub(crate) address: &'static [u8],
+pub struct Manner {
+    pub method: &'static [u8],
+    pub first: usize,
+    pub others: usize,
+    pub address: &'static [u8],
+}
+
+/// Each of so many documents, five at most, waits for all.
+pub fn waiting_for(count: usize) -> Manner {
+    Manner {
+        method: b"",
+        first: count,
+        others: count,
+        address: b"",
+    }
 }
 
 /// The link of one of some documents. It fails where it waits too long.
 #[derive(Drop)]
-pub(crate) struct WaitingLink<'a> {
+pub struct WaitingLink<'a> {
     asked: &'a Asked,
     document: usize,
     method: &'static [u8],
@@ -137,15 +147,15 @@ impl<'a> Link for WaitingLink<'a> {
 
 /// The links of some documents, five at most.
 #[derive(Drop)]
-pub(crate) struct WaitingLinks<'a> {
+pub struct WaitingLinks<'a> {
     asked: &'a Asked,
     manner: Manner,
     faults: u64,
 }
 
 impl<'a> WaitingLinks<'a> {
-    // The links of documents, of which these have asked.
-    pub(crate) fn new(asked: &'a Asked, manner: Manner) -> WaitingLinks<'a> {
+    /// The links of documents, of which these have asked.
+    pub fn new(asked: &'a Asked, manner: Manner) -> WaitingLinks<'a> {
         WaitingLinks {
             asked,
             manner,
@@ -153,8 +163,8 @@ impl<'a> WaitingLinks<'a> {
         }
     }
 
-    // The link of a document.
-    pub(crate) fn link(&self, document: u32) -> WaitingLink<'a> {
+    /// The link of a document.
+    pub fn link(&self, document: u32) -> WaitingLink<'a> {
         let count = if document == 0 {
             self.manner.first
         } else {

@@ -8,9 +8,9 @@ ghost use Rattle.value_requests.specs.Requests.{IsClient};
 
 use crate::inits::request_in;
 use crate::requests::{LIMIT, fetch};
-use crate::tables::table_in;
 use link_traits::MemoryLink;
 use play_definitions::FetchRun;
+use rows_links::table_in;
 use rows_shell::{Failed, Held, Row, Shown, client_at};
 use script_events::Event;
 use server_tables::{AllowTable, answer};
@@ -104,8 +104,8 @@ fn fetch_from<R: Threads + Wait + Sync>(
     Err(Failed)
 }
 
-// What the fetch of a row sends and comes to.
-pub(crate) fn fetched<R: Threads + Wait + Sync>(
+// Shows what the fetch of a row sends and comes to.
+pub(crate) fn show_fetch<R: Threads + Wait + Sync>(
     rt: &R,
     alloc: Global,
     row: &Row,

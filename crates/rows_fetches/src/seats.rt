@@ -6,13 +6,12 @@ ghost use Rattle.std.specs.List.{All};
 ghost use Rattle.script_scenarios.specs.Valid.{IsValid};
 ghost use Rattle.book_turns.specs.Passes.{left_of, made_of};
 
-use crate::gates::{SCENARIO, waiting_for};
-use crate::links::scenario_in;
-use crate::waiting::{Asked, WaitingLink, WaitingLinks};
+use crate::scenarios::{TWO_DOCUMENTS, scenario_in};
 use book_calls::Book;
 use book_turns::{TurnBook, TurnPass};
 use play_definitions::Seating;
 use play_documents::play_all;
+use rows_links::{Asked, WaitingLink, WaitingLinks, waiting_for};
 use rows_shell::{Failed, Shown};
 use script_events::{Ending, Transcript};
 use script_scenarios::Scenario;
@@ -101,13 +100,13 @@ fn play_over<R: Threads + Wait + Sync>(
     play_on(rt, alloc, scenario, book, &mut seats, shown)
 }
 
-// Plays the two documents.
-pub(crate) fn play<R: Threads + Wait + Sync + AllocGlobal>(
+/// Plays the two documents of `TWO_DOCUMENTS`, each on a seat of its own.
+pub fn play_on_seats<R: Threads + Wait + Sync + AllocGlobal>(
     rt: &R,
     shown: &mut Shown,
 ) -> Result<(), Failed> {
     let alloc = rt.alloc();
-    let scenario = scenario_in(alloc, SCENARIO)?;
+    let scenario = scenario_in(alloc, TWO_DOCUMENTS)?;
     if scenario.value.documents.len() != 2 {
         return Err(Failed);
     }

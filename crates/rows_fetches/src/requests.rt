@@ -1,17 +1,19 @@
 // A request that is fetched by itself over a link and a book of its own. A row has, with a tab between, the request, as
-// `rows_shell`'s `requests.rt` writes one, and its link, as `links.rt` does. The words for what fails may include
+// `requests.rt` of `rows_shell` writes one, and its link, as `links.rt` of `rows_links` does. The words for what fails
+// may include
 //
 //     limit=N           the fetch reads so many bytes of a body at most, and not 262,144
 ghost use Rattle.std.specs.Prelude.{◌≤◌};
 ghost use Rattle.value_requests.specs.Requests.{IsClient, IsRequest};
 
-use crate::links::{history_of, link_in, show, tell};
+use crate::documents::{history_of, show};
 use book_calls::{Book, History, Share, SoloBook};
 use link_traits::MemoryLink;
 use play_definitions::FetchRun;
 use play_fetch::drive_fetch;
 use policy_csp::Compiled;
 use policy_csp_text::Policies;
+use rows_links::{link_in, show_link};
 use rows_shell::{Failed, Held, Shown, client_at, number, request_of, value_of};
 use script_events::{Ending, Event, Transcript, Transcripts};
 use std::alloc::Global;
@@ -117,13 +119,14 @@ fn play_for<R: Threads + Wait + Sync>(
     let key = client.key.copy(alloc)?;
     let request = request_of(alloc, before_byte(line, b'\t'))?;
     let (run, history) = fetch(rt, alloc, Box::into_inner(request), limit, client, link)?;
-    tell(link, shown);
+    show_link(link, shown);
     let transcripts = transcripts_of(alloc, key, run)?;
     show(alloc, &transcripts, &history, shown)
 }
 
-// Fetches the request of a row over its link.
-pub(crate) fn play<R: Threads + Wait + Sync + AllocGlobal>(
+/// Fetches the request of a row over its link and a book of its own, and shows how often the link was asked and failed,
+/// and the text of the fetch.
+pub fn play_request<R: Threads + Wait + Sync + AllocGlobal>(
     rt: &R,
     line: &str,
     shown: &mut Shown,

@@ -48,8 +48,8 @@ fn show_lines(lines: &[Bytes], shown: &mut Shown) {
     }
 }
 
-// Shows the lines of the documents, and then a word and how many calls the history has.
-pub(crate) fn show_count(lines: &[Bytes], word: &[u8], shown: &mut Shown) {
+/// Shows the lines of the documents, and then a word and how many calls the history has.
+pub fn show_count(lines: &[Bytes], word: &[u8], shown: &mut Shown) {
     let (documents, history) = parts_of(lines);
     show_lines(documents, shown);
     shown.add_count(word, count_of(history));

@@ -1,5 +1,5 @@
 use Rattle.std.proofs.Common.{◌+◌, ◌*◌, ◌≤◌, length}
-use Rattle.rows_plays.proofs.links.play_each.Given as goal
+use Rattle.rows_fetches.proofs.documents.play_each.Given as goal
 
 -- there are calls left for the rows that follow
 abbrev pub invariant-loop-row : goal.invariant-loop-row

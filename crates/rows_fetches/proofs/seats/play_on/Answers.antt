@@ -2,7 +2,7 @@ use Rattle.std.proofs.Common.{◌∙◌, ◌≤◌, ap, arith, sym}
 use Rattle.std.specs.List.{range_with_len}
 use Rattle.std.proofs.lemmas.List.Elements.{All-map}
 use Rattle.std.proofs.lemmas.Simd.{map-map}
-use Rattle.rows_plays.proofs.seats.play_on.Goals as goal
+use Rattle.rows_fetches.proofs.seats.play_on.Goals as goal
 
 pub play_all-requires-clause-seats : goal.play_all-requires-clause-seats
 play_all-requires-clause-seats g c κs within = record {

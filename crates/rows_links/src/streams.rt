@@ -2,13 +2,9 @@
 //
 //     reads=N         the Nth read fails; likewise `writes=N`, and `complaints=N` for those of complaints
 //     zeros=N         the Nth write takes nothing
-use link_routes::Links;
-use link_traits::{FixedClock, MemorySink, MemorySource};
-use program_fetchplay::fetchplay;
+use link_traits::{MemorySink, MemorySource};
 use rows_shell::{Failed, Held, Shown, number, value_of};
 use std::alloc::Global;
-use std::sync::Wait;
-use std::thread::Threads;
 use value_text::{Bytes, after_byte, before_byte};
 
 /// How many bytes the output and the complaints each have room for.
@@ -16,10 +12,10 @@ const ROOM: usize = 16_777_216;
 
 /// The streams of a run.
 #[derive(Drop)]
-pub(crate) struct Streams {
-    pub(crate) input: Held<MemorySource>,
-    pub(crate) output: Held<MemorySink>,
-    pub(crate) complaints: Held<MemorySink>,
+pub struct Streams {
+    pub input: Held<MemorySource>,
+    pub output: Held<MemorySink>,
+    pub complaints: Held<MemorySink>,
 }
 
 // The numbers of the first word `NAME=N,N`, in order; none where there is no such word.
@@ -59,8 +55,9 @@ fn input_of(alloc: Global, words: &[u8], text: &[u8]) -> Result<Held<MemorySourc
 }
 
 impl Streams {
-    // The streams of an input.
-    pub(crate) fn of(alloc: Global, words: &[u8], text: &[u8]) -> Result<Streams, Failed> {
+    /// The streams of an input, which is a text. The words say which of their calls fail, as this file says. The output
+    /// and the complaints each have room for 16,777,216 bytes.
+    pub fn of(alloc: Global, words: &[u8], text: &[u8]) -> Result<Streams, Failed> {
         Ok(Streams {
             input: input_of(alloc, words, text)?,
             output: sink_of(alloc, words, b"writes", b"zeros")?,
@@ -68,48 +65,25 @@ impl Streams {
         })
     }
 
-    // What was written.
-    pub(crate) fn output(&self) -> &[u8] {
+    /// What was written.
+    pub fn output(&self) -> &[u8] {
         self.output.value.taken()
     }
 
-    // What was complained.
-    pub(crate) fn complaints(&self) -> &[u8] {
+    /// What was complained.
+    pub fn complaints(&self) -> &[u8] {
         self.complaints.value.taken()
-    }
-
-    // Runs `fetchplay` with these words over links from a time on, and shows the number of its status.
-    pub(crate) fn play<R: Threads + Wait + Sync, N: Links>(
-        &mut self,
-        rt: &R,
-        alloc: Global,
-        words: &[String],
-        links: &mut N,
-        now: u64,
-        shown: &mut Shown,
-    ) {
-        let status = fetchplay(
-            rt,
-            alloc,
-            words,
-            &mut self.input.value,
-            &mut self.output.value,
-            &mut self.complaints.value,
-            links,
-            &mut FixedClock::new(now),
-        );
-        show_status(status.number(), shown);
     }
 }
 
-// Shows the number of a status.
-pub(crate) fn show_status(number: u8, shown: &mut Shown) {
+/// Shows the number of a status, in a line of its own.
+pub fn show_status(number: u8, shown: &mut Shown) {
     shown.add_count(b"status ", usize::from(number));
     shown.add(b"\n");
 }
 
-// A program's words, which have commas between.
-pub(crate) fn words_of(alloc: Global, text: &[u8]) -> Result<Vec<String>, Failed> {
+/// A program's words, which have commas between. An empty one is left out.
+pub fn words_of(alloc: Global, text: &[u8]) -> Result<Vec<String>, Failed> {
     let text = text_of(text)?;
     let mut words = Vec::new(alloc);
     for word in text.split(',') {
@@ -120,7 +94,7 @@ pub(crate) fn words_of(alloc: Global, text: &[u8]) -> Result<Vec<String>, Failed
     Ok(words)
 }
 
-// The text that bytes are.
+// The text that bytes are, if they are UTF-8.
 pub(crate) fn text_of(bytes: &[u8]) -> Result<&str, Failed> {
     match str::from_utf8(bytes) {
         Ok(text) => Ok(text),

@@ -33,8 +33,9 @@ const KINDS: [(&[u8], Kind); 5] = [
     (b"device", Kind::Device),
 ];
 
-// A row, and what it comes to.
-pub(crate) fn answer(alloc: Global, row: &[u8], shown: &mut Shown) -> Result<(), Failed> {
+/// Shows a row of the wire, as this file says how it is written, and what it comes to. It fails where the row is badly
+/// written or memory is refused.
+pub fn show_row(alloc: Global, row: &[u8], shown: &mut Shown) -> Result<(), Failed> {
     let kind = named(&KINDS, before_byte(row, b' '))?;
     shown.add(row);
     shown.add(b" => ");

@@ -4,8 +4,8 @@ use server_tables::{AllowTable, answer, read_table};
 use std::alloc::Global;
 use value_text::BytesList;
 
-// The table that a text is.
-pub(crate) fn table_in(alloc: Global, text: &[u8]) -> Result<AllowTable, Failed> {
+/// The table that a text is.
+pub fn table_in(alloc: Global, text: &[u8]) -> Result<AllowTable, Failed> {
     match read_table(alloc, text)? {
         Ok(table) => Ok(table),
         Err(_) => Err(Failed),
@@ -40,8 +40,8 @@ fn add_row(row: &server_tables::Row, shown: &mut Shown) {
     });
 }
 
-// The rows of a table, or the first line that is none.
-pub(crate) fn read(alloc: Global, row: &Row, shown: &mut Shown) -> Result<(), Failed> {
+/// Shows the rows of the table that a row's second text is, or the number of its first line that is none.
+pub fn show_table(alloc: Global, row: &Row, shown: &mut Shown) -> Result<(), Failed> {
     match read_table(alloc, row.text(1))? {
         Ok(table) => {
             shown.add(b"Ok");
@@ -54,8 +54,8 @@ pub(crate) fn read(alloc: Global, row: &Row, shown: &mut Shown) -> Result<(), Fa
     Ok(())
 }
 
-// What a request is answered with.
-pub(crate) fn answered(alloc: Global, row: &Row, shown: &mut Shown) -> Result<(), Failed> {
+/// Shows the bytes that the request in a row's third text is answered with, by the table in its second.
+pub fn show_answer(alloc: Global, row: &Row, shown: &mut Shown) -> Result<(), Failed> {
     let table = table_in(alloc, row.text(1))?;
     shown.add_escaped(answer(alloc, &table, row.text(2))?.as_slice());
     Ok(())

@@ -1,70 +1,29 @@
 // Documents that are played over links in memory. A row is a scenario of one document, what fails of its link, and
-// the link's answers, with a tab between. What fails is written in words with a space between:
-//
-//     asks=N,N          the Nth ask fails
-//     receives=N,N      the Nth receive fails
-//
-// An answer is written as its pieces with a bar between, of which each comes by a receive of its own. Rows that follow
-// each other, up to an empty line, are played one after another over one book. Of each is shown how often its link was
-// asked and how often it failed, and then the text of all of them, with the book's history.
+// the link's answers, with a tab between, as `links.rt` of `rows_links` says. Rows that follow each other, up to an
+// empty line, are played one after another over one book. Of each is shown how often its link was asked and how often
+// it failed, and then the text of all of them, with the book's history.
 ghost use Rattle.std.specs.Prelude.{◌≤◌, ◌<◌, ◌+◌, ◌*◌, length, IfOk};
 ghost use Rattle.script_scenarios.specs.Valid.{IsValid};
 
-use crate::streams::numbers_of;
+use crate::scenarios::scenario_in;
 use book_calls::{Book, History, Share, SoloBook, SoloPass};
-use link_traits::{MemoryLink, MemorySink};
+use link_traits::MemorySink;
 use play_documents::drive;
 use play_text::write_play;
-use rows_shell::{Failed, Held, Row, Shown, texts_between};
+use rows_links::{link_in, show_link};
+use rows_shell::{Failed, Held, Shown};
 use script_events::{Transcripts, has_text};
-use script_reading::read_scenario;
 use script_scenarios::Scenario;
 use std::alloc::Global;
 use std::sync::Wait;
 use std::thread::Threads;
-use value_text::{BytesList, after_byte, before_byte};
+use value_text::before_byte;
 
 /// How many rows are played over one book at most.
 const MOST_ROWS: usize = 64;
 
 /// How many bytes the text of these rows has at most.
 const ROOM: usize = 1_048_576;
-
-/// How many bytes a link has room for of what it is asked.
-const LINK_ROOM: usize = 65_536;
-
-// The answers of a row.
-fn answers_of(alloc: Global, row: &Row) -> Result<Vec<BytesList>, Failed> {
-    let mut answers = Vec::new(alloc);
-    for index in 1..row.len() {
-        answers.push(texts_between(alloc, row.text(index), b'|')?)?;
-    }
-    Ok(answers)
-}
-
-// The link of a row, whose first text says what fails, and the others are the answers.
-fn link_of(alloc: Global, row: &Row) -> Result<MemoryLink, Failed> {
-    let answers = answers_of(alloc, row)?;
-    let asks = numbers_of(alloc, row.text(0), b"asks")?;
-    let receives = numbers_of(alloc, row.text(0), b"receives")?;
-    Ok(MemoryLink::new(alloc, answers, LINK_ROOM, asks, receives)?)
-}
-
-// The link of a line, whose first text says what is played over it.
-pub(crate) fn link_in(alloc: Global, line: &str) -> Result<MemoryLink, Failed> {
-    let row = Row::of(alloc, after_byte(line.as_bytes(), b'\t'), b'\t')?;
-    link_of(alloc, &row)
-}
-
-// The scenario that a text has.
-pub(crate) fn scenario_in(alloc: Global, text: &[u8]) -> Result<Held<Scenario>, Failed>
-    ensures { IfOk result (λ held. IsValid held.value) }
-{
-    match read_scenario(alloc, text)? {
-        Ok(scenario) => Ok(Held { value: scenario }),
-        Err(_) => Err(Failed),
-    }
-}
 
 // The scenario of a row, which has a document.
 fn scenario_of(alloc: Global, line: &str) -> Result<Held<Scenario>, Failed>
@@ -77,17 +36,6 @@ fn scenario_of(alloc: Global, line: &str) -> Result<Held<Scenario>, Failed>
     } else {
         Ok(scenario)
     }
-}
-
-// How often a link was asked, and how often it failed.
-pub(crate) fn tell(link: &MemoryLink, shown: &mut Shown) {
-    match link.asks(shown.alloc()) {
-        Ok(asks) => shown.add_count(b"asked ", asks.len()),
-        Err(_) => shown.fail(),
-    }
-    shown.add(b", failed ");
-    shown.add_number(link.faults());
-    shown.add(b"\n");
 }
 
 // Plays a row's document over its link, and tells of the link. The document's transcript is added to the
@@ -113,7 +61,7 @@ fn play_row<R: Threads + Wait + Sync, S: Share>(
     let scenario = &held.value;
     let now = scenario.now;
     let transcript = drive(rt, alloc, scenario, 0, now, share, pass, &mut link.value);
-    tell(&link.value, shown);
+    show_link(&link.value, shown);
     transcripts.push(transcript)?;
     Ok(())
 }
@@ -161,8 +109,8 @@ pub(crate) fn show(
     Ok(())
 }
 
-// Plays rows one after another over one book that nobody has written into yet.
-pub(crate) fn play<R: Threads + Wait + Sync + AllocGlobal>(
+/// Plays rows one after another over one book that nobody has written into yet, 64 of them at most.
+pub fn play_group<R: Threads + Wait + Sync + AllocGlobal>(
     rt: &R,
     rows: &[&str],
     shown: &mut Shown,

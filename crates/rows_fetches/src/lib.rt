@@ -1,0 +1,17 @@
+// What rows play below the programs' top calls: documents, single requests and what a document sees of a server with an
+// allow table, over links in memory and books of their own.
+#![tactic(auto)]
+
+mod access;
+mod documents;
+mod fetches;
+mod inits;
+mod requests;
+mod scenarios;
+mod seats;
+
+pub use access::{AccessKind, kind_of, play_access};
+pub use documents::play_group;
+pub use requests::play_request;
+pub use scenarios::{TWO_DOCUMENTS, scenario_in};
+pub use seats::play_on_seats;
