@@ -3,6 +3,7 @@ use Rattle.std.proofs.Common.{◌≡◌, ◌≢◌, List, [], ◌∷◌, ◌++�
 use seplogic.Ra.Ura.{Ura}
 use base.Logic.{SProp, ent, via, sep, fst∗, guard_i, id⊢, never, never_e}
 use base.Fml.{Fml, ftrue}
+use mir.Syntax.{tcons, tnil}
 use mir.Val.{Val, vptr}
 use prog.Model.{Model}
 use prog.Wp.{WpFn}
@@ -67,9 +68,9 @@ module _ {M : Type 1} {𝓤 : Ura M} (𝓛 : Logic 𝓤) (𝓜 : Model 𝓤 𝓛
     goes (block_ptr b o) (Some x) e some = let p : Ptr = block_ptr b o in let made : Val = both (vptr b o) h in
         let typed = loose_good thing.the_row heap.the_row heap_laws.the_row_laws ghosts b o h fits in let d : Row.Denot = record { at = p; alloc = a; value = x } in
         qed 𝓛 (‵ (handle_owns p (Some x)) ∷ ‵ Heap ∷ []) ∵ enter ! _ _ _ _ _ $ alloc_all ! (λ l. pass_all ! refl (word_good p, (fits, tt)) $
-        sets ! (of_opd ! (get_in ! (fld ! refl (stop !)) (sub ! 0 refl (whole !)))) refl (tt, tt) $
+        sets ! (of_opd ! (get_in ! (fld ! refl (stop !)) (sub ! {τs = tcons _ tnil} 0 refl (whole !)))) refl (tt, tt) $
         sets ! (of_opd ! (get ! refl)) refl (tt, tt) $ sets ! (agg ! (and_then ! (get ! refl) (and_then ! (get ! refl) (no_more !)))) refl typed $
-        returns ! (look_at ! 0 refl) $ free_all ! refl $ loose_in thing.the_row heap.the_row heap_laws.the_row_laws ghosts ! b o h a x $
+        returns ! (look_at ! 0 refl) $ free_all ! refl $ loose_in thing.the_row heap.the_row heap_laws.the_row_laws ghosts {Γ = []} ! b o h a x $
         suffices ! _ (ends_at 𝓛 f.ended stayed c y made d (tt, (tt, tt)) (tt, (tt, tt))) $ says ! e $ nothing ! $ nothing ! $ join ! $ nothing ! $ join ! $ nothing ! $ done !)
 
 pub into_loose_spec : {M : Type 1} → statement M

@@ -2,6 +2,7 @@
 use Rattle.std.proofs.Common.{List, [], ◌∷◌, ◌++◌, refl, sym, subst}
 use base.Logic.{SProp, ent, id⊢}
 use base.Fml.{ftrue}
+use mir.Syntax.{tcons, tnil}
 use mir.Val.{Val, vptr}
 use prog.Wp.{WpFn}
 use types.Kit.{‵, ◌⊛◌, ◌$◌, ◌∵◌, !, qed, drop, keep, split, join, fsplit, suffices, done}
@@ -44,7 +45,7 @@ of_loose_spec 𝓤 𝓛 𝓜 𝓡 wired =
     suffices ! (Run (v ∷ [])) (subst (λ (ws : List Val). ent 𝓤 (Run (v ∷ [])) (Run ws)) (sym (λ i. us i ++ [])) (id⊢ 𝓤 (Run (v ∷ [])))) $
     enter ! _ _ _ _ _ $ alloc_all ! (λ l. pass_all ! refl (loose_good thing.the_row heap.the_row heap_laws.the_row_laws ghosts b o h fits, tt) $
     -- [the box; the handle of the allocator; nothing; nothing; the locals]
-    sets ! (of_opd ! (get_in ! (fld ! refl (stop !)) (sub ! 0 refl (whole !)))) refl (tt, tt) $
+    sets ! (of_opd ! (get_in ! (fld ! refl (stop !)) (sub ! {τs = tcons _ (tcons _ tnil)} 0 refl (whole !)))) refl (tt, tt) $
     sets ! (of_opd ! (get ! refl)) refl (tt, tt) $
     sets ! (agg ! (and_then ! (get ! refl) (no_more !))) refl (word_good (block_ptr b o)) $
     returns ! (look_at ! 0 refl) $ free_all ! refl $ keep ! (0 ∷ []) $

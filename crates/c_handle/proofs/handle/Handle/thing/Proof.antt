@@ -1,15 +1,15 @@
 -- `thing` tests the pointer, and lends the thing behind it: the handle follows it.
-use Rattle.std.proofs.Common.{◌≡◌, ℕ, List, [], ◌∷◌, ◌++◌, refl, sym, ap, lit<}
+use Rattle.std.proofs.Common.{◌≡◌, ℕ, List, [], ◌∷◌, refl, sym, ap, lit<}
 use seplogic.Ra.Ura.{Ura}
 use base.Fml.{Fml, GName, Lft, Share, ftrue, fsep, flft, fres}
 use base.Fraction.{full_share}
 use base.Logic.{SProp, ent, sep}
 use mir.Raw.{raw as bare}
-use mir.Syntax.{named}
+use mir.Syntax.{named, tcons, tnil}
 use mir.Val.{Val, vptr, vcons, vnil}
 use prog.Wp.{Env}
 use types.Logic.{Logic, sem}
-use types.Kit.{‵, raw, ◌⊛◌, given, some, later, at_ret, ◌$◌, ◌∵◌, !, qed, move, drop, keep, split, split3, join, group, fsplit, fsplit3, fjoin, fpack, pick, await, rewrite, suffices, learn, use0, use1, frame, done}
+use types.Kit.{‵, ◌⊛◌, given, some, later, at_ret, ◌$◌, ◌∵◌, !, qed, move, drop, keep, split, split3, join, group, fsplit, fsplit3, fjoin, fpack, pick, await, rewrite, suffices, learn, use0, use1, frame, done}
 use types.Run.{stop, fld, load, lit, of_opd, addr, bin, no_more, and_then, first, blocks, skips, branches, exec, returns, returns_within, enter}
 use types.Part.{agg, look_in, sub, whole}
 use types.Match.{live}
@@ -19,7 +19,7 @@ use denote.Exit.{no}
 use denote.Follow.{follows, follows_by, lends_Part}
 use denote.Memory.{cell_at, lone, mem, part_at, part_of}
 use denote.RattleType.{RattleType, owns}
-use denote.RawPtr.{Ptr, block_ptr, null_ptr, ptr_val, Testable, tests_null}
+use denote.RawPtr.{Ptr, block_ptr, ptr_val, Testable, tests_null}
 use denote.Ref.{MutBor, MutRef, mut_vals, mut_Tells}
 use denote.Signature.{plain, mut_ref_to, types_at}
 use denote.Steps.{nothing, opens, closes}
@@ -75,7 +75,7 @@ thing_spec 𝓤 𝓛 𝓜 𝓡 wired =
     handle_cases ! d.at d.held
     (λ at_null is_none. let zero : Val = live 0 vnil in
     -- [what the handle owns; the word; the open borrow; obs; auth]
-    sets ! (is ! (of_opd ! (load ! (through ! refl (fld ! refl (stop !))) (look_in ! 1 (sub ! 0 refl (whole !))))) (ap ptr_val at_null)) refl (tt, record { fits = lit< tt }) $
+    sets ! (is ! (of_opd ! (load ! (through ! refl (fld ! refl (stop !))) (look_in ! 1 (sub ! {τs = tcons _ tnil} 0 refl (whole !))))) (ap ptr_val at_null)) refl (tt, record { fits = lit< tt }) $
     sets ! (bin ! (get ! refl) (lit ! tt) tt) refl (tt, tt) $ first ! $ branches ! (get ! refl)
     (λ _. sets ! (agg ! (and_then ! (lit ! tt) (no_more !))) refl (tt, (record { fits = lit< tt }, tt)) $
     handle_in ! d $ move ! (1 ∷ 0 ∷ 2 ∷ 3 ∷ 4 ∷ []) $ closes ! tt Handle d (word d.at ∷ []) b o $
@@ -88,11 +88,11 @@ thing_spec 𝓤 𝓛 𝓜 𝓡 wired =
     (λ pb po x in_block is_some. let p : Ptr = block_ptr pb po in let at : Val = vptr pb po in let one : Val = live 1 (vcons at vnil) in
     use1 𝓛 (given (Testable p) (‵ (box_owns chunk Thing p x))) (tested 𝓛 p x) $ learn ! (λ may. fsplit ! $
     -- [the thing; the right to free it; the word; the open borrow; obs; auth]
-    sets ! (is ! (of_opd ! (load ! (through ! refl (fld ! refl (stop !))) (look_in ! 2 (sub ! 0 refl (whole !))))) (ap ptr_val in_block)) refl (tt, tt) $
+    sets ! (is ! (of_opd ! (load ! (through ! refl (fld ! refl (stop !))) (look_in ! 2 (sub ! {τs = tcons _ tnil} 0 refl (whole !))))) (ap ptr_val in_block)) refl (tt, tt) $
     sets ! (bin ! (get ! refl) (lit ! tt) (tests_null p may)) refl (tt, tt) $ first ! $ branches ! (get ! refl)
     (λ wrong. absurd wrong)
     (λ _. skips ! $ exec ! 𝓣.C 𝓣.Λ En (after 3 (code.function).body) (at_ret En Post) $ first ! $ blocks ! $
-    sets ! (is ! (of_opd ! (load ! (through ! refl (fld ! refl (stop !))) (look_in ! 2 (sub ! 0 refl (whole !))))) (ap ptr_val in_block)) refl (tt, tt) $
+    sets ! (is ! (of_opd ! (load ! (through ! refl (fld ! refl (stop !))) (look_in ! 2 (sub ! {τs = tcons _ tnil} 0 refl (whole !))))) (ap ptr_val in_block)) refl (tt, tt) $
     sets ! (of_opd ! (get ! refl)) refl (tt, tt) $ sets_last ! (addr ! (through ! refl (stop !))) refl (tt, tt) $
     exec ! 𝓣.C 𝓣.Λ En (after 4 (code.function).body) (at_ret En Post) $ sets ! (of_opd ! (get ! refl)) refl (tt, tt) $
     sets ! (agg ! (and_then ! (lit ! tt) (and_then ! (get ! refl) (no_more !)))) refl (tt, (record { fits = lit< tt }, (tt, tt))) $
