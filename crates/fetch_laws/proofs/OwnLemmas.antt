@@ -12,8 +12,8 @@ use Rattle.value_requests.specs.declared.request.Request.{Request}
 use Rattle.fetch_acts.specs.declared.act.Act.TheVariants.{Ask}
 use Rattle.fetch_acts.specs.Within.{Anything, AnyAct, Prices, Within, asks, price_of}
 use Rattle.fetch_acts.proofs.WithinLemmas.{all-anything, within-all, within-total}
-use Rattle.fetch_machine.specs.Fetch.{fetch}
-use Rattle.fetch_machine.specs.Then.{Context}
+use Rattle.fetch_definitions.specs.Fetch.{fetch}
+use Rattle.fetch_definitions.specs.Then.{Context}
 use Rattle.fetch_laws.specs.Own.{IsOwn, IsOwnAct, IsOwnOp}
 use Rattle.fetch_laws.specs.Prices.{fetch_price}
 use Rattle.fetch_laws.specs.Laws.{AsksFew, AsksOwn, most_asks}

@@ -51,14 +51,15 @@ use Rattle.fetch_answers.specs.Endings.{ended_under}
 use Rattle.fetch_answers.specs.Following.{redirected_request}
 use Rattle.fetch_answers.specs.Judging.{refusal_after}
 use Rattle.fetch_answers.specs.Redirects.{redirection}
-use Rattle.fetch_machine.specs.Fetch.{again, ends, fetch, finished, onward_of}
-use Rattle.fetch_machine.specs.HttpFetch.{answered, http_fetch, judged, read_head, redirected}
-use Rattle.fetch_machine.specs.MainFetch.{checked, main_fetch, matched, matched_by, switched, switched_by}
-use Rattle.fetch_machine.specs.MainFetch.{unless_refused as unless_blocked}
-use Rattle.fetch_machine.specs.MainFetch.{unless_violated}
-use Rattle.fetch_machine.specs.PreflightFetch.{clearing, covered_or_not, names_of as unsafe_of, preflight_answered}
-use Rattle.fetch_machine.specs.PreflightFetch.{preflight_judged, read_preflight_head}
-use Rattle.fetch_machine.specs.Then.{Context, Onward, Then, head_of, said_yes, tell_all, then_ask, then_ask_where, was_sent}
+use Rattle.fetch_definitions.specs.Fetch.{again, ends, fetch, finished, onward_of}
+use Rattle.fetch_definitions.specs.HttpFetch.{answered, http_fetch, judged, read_head, redirected}
+use Rattle.fetch_definitions.specs.MainFetch.{checked, main_fetch, matched, matched_by, switched, switched_by}
+use Rattle.fetch_definitions.specs.MainFetch.{unless_refused as unless_blocked}
+use Rattle.fetch_definitions.specs.MainFetch.{unless_violated}
+use Rattle.fetch_definitions.specs.PreflightFetch.{clearing, covered_or_not, names_of as unsafe_of, preflight_answered}
+use Rattle.fetch_definitions.specs.PreflightFetch.{preflight_judged, read_preflight_head}
+use Rattle.fetch_definitions.specs.Then.{Context, Onward, Then, head_of, said_yes, tell_all, then_ask, then_ask_where}
+use Rattle.fetch_definitions.specs.Then.{was_sent}
 use Rattle.fetch_laws.specs.Prices.{end_price, fetch_price, level_price, report_price}
 
 -- ---- what is owed

@@ -5,8 +5,8 @@ use Rattle.value_requests.specs.declared.request.Request.{Request}
 use Rattle.fetch_acts.specs.declared.act.Input.{Input}
 use Rattle.fetch_acts.specs.Process.{run}
 use Rattle.fetch_acts.specs.Within.{asks, price_of}
-use Rattle.fetch_machine.specs.Fetch.{fetch}
-use Rattle.fetch_machine.specs.Then.{Context}
+use Rattle.fetch_definitions.specs.Fetch.{fetch}
+use Rattle.fetch_definitions.specs.Then.{Context}
 use Rattle.fetch_laws.specs.Own.{IsOwn}
 
 -- how many ops a run of a fetch makes at most

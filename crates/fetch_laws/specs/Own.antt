@@ -6,7 +6,7 @@ use Rattle.book_calls.specs.Past.{is_of_key}
 use Rattle.value_requests.specs.declared.request.Request.{Request}
 use Rattle.fetch_acts.specs.declared.act.Act.{Act}
 use Rattle.fetch_acts.specs.declared.act.Act.TheVariants.{Ask}
-use Rattle.fetch_machine.specs.Then.{Context}
+use Rattle.fetch_definitions.specs.Then.{Context}
 
 -- the op is in range, and one that a document of the client's key makes
 abbrev pub IsOwnOp : Context → Op → Type 0

@@ -3,7 +3,7 @@ use Rattle.std.specs.Prelude.{ℕ, ◌+◌, ◌-◌, ◌*◌, length}
 use Rattle.value_requests.specs.declared.request.Request.{Request}
 use Rattle.value_requests.specs.Requests.{most_redirects}
 use Rattle.fetch_acts.specs.Within.{Prices}
-use Rattle.fetch_machine.specs.Then.{Context}
+use Rattle.fetch_definitions.specs.Then.{Context}
 
 -- the violations of one request: at most one for each policy
 abbrev pub report_price : Prices → Context → ℕ

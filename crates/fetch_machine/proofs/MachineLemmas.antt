@@ -32,13 +32,13 @@ use Rattle.fetch_acts.specs.declared.act.Act.TheVariants.{Ask}
 use Rattle.fetch_acts.specs.Process.{Process, act}
 use Rattle.fetch_machine.specs.declared.place.Step.{Step}
 use Rattle.fetch_machine.specs.declared.place.Level.{Level}
-use Rattle.fetch_machine.specs.Fetch.{again, ends, finished, onward_of}
-use Rattle.fetch_machine.specs.HttpFetch.{answered, judged}
+use Rattle.fetch_definitions.specs.Fetch.{again, ends, finished, onward_of}
+use Rattle.fetch_definitions.specs.HttpFetch.{answered, judged}
 use Rattle.fetch_machine.specs.Machine.{Does, Leads, at_level, clears, next_of}
-use Rattle.fetch_machine.specs.MainFetch.{main_fetch, unless_violated}
-use Rattle.fetch_machine.specs.PreflightFetch.{after_covers, names_of, preflight_answered, preflight_judged}
-use Rattle.fetch_machine.specs.PreflightFetch.{with_preflight}
-use Rattle.fetch_machine.specs.Then.{Context, Onward, Then, tell_all, then_ask}
+use Rattle.fetch_definitions.specs.MainFetch.{main_fetch, unless_violated}
+use Rattle.fetch_definitions.specs.PreflightFetch.{after_covers, names_of, preflight_answered, preflight_judged}
+use Rattle.fetch_definitions.specs.PreflightFetch.{with_preflight}
+use Rattle.fetch_definitions.specs.Then.{Context, Onward, Then, tell_all, then_ask}
 
 -- a head is passed out by each level that owes a clear
 clears-head : (context : Context) (owed : ℕ) (request : Request) (head : Head)

@@ -1,20 +1,22 @@
 -- What a fetch that waits will do, as a process: the meaning of the places of the machine. Only the contracts of its
 -- calls cite it.
 use Rattle.std.specs.Prelude.{◌≡◌, ℕ, zero, suc, Bool, true, false, List, [], drop, Some, Result, Ok, Err}
-use Rattle.fetch_machine.specs.Words.{Act, CspRequest, Input, IsPlain, OutOfMemory, Process, Request, Run, act, began}
-use Rattle.fetch_machine.specs.Words.{ended, followed, refusal_after, run, upgraded}
+use Rattle.fetch_acts.specs.Process.{IsPlain, Process, Run, act, began, ended, followed, run}
+use Rattle.fetch_acts.specs.declared.act.Act.{Act}
+use Rattle.value_text.specs.declared.memory.OutOfMemory.{OutOfMemory}
 use Rattle.fetch_machine.specs.declared.place.Fetching.{Fetching}
 use Rattle.fetch_machine.specs.declared.place.Level.{Level}
 use Rattle.fetch_machine.specs.declared.place.Place.{Place}
 use Rattle.fetch_machine.specs.declared.place.Place.TheVariants as place
 use Rattle.fetch_machine.specs.declared.place.Step.{Step}
 use Rattle.fetch_machine.specs.declared.place.Step.TheVariants.{Going, Over}
-use Rattle.fetch_machine.specs.Fetch.{after_body, ends, finished, onward_of}
-use Rattle.fetch_machine.specs.HttpFetch.{after_head, after_sent, http_fetch, judged}
-use Rattle.fetch_machine.specs.MainFetch.{after_match, checked}
-use Rattle.fetch_machine.specs.PreflightFetch.{after_covers, after_preflight_head, after_preflight_sent, clearing}
-use Rattle.fetch_machine.specs.PreflightFetch.{preflight_judged}
-use Rattle.fetch_machine.specs.Then.{Context, Onward, Then, tell_all}
+use Rattle.fetch_definitions.specs.Fetch.{after_body, ends, finished, onward_of}
+use Rattle.fetch_definitions.specs.HttpFetch.{after_head, after_sent, http_fetch, judged}
+use Rattle.fetch_definitions.specs.MainFetch.{after_match, checked}
+use Rattle.fetch_definitions.specs.PreflightFetch.{after_covers, after_preflight_head, after_preflight_sent, clearing}
+use Rattle.fetch_definitions.specs.PreflightFetch.{preflight_judged}
+use Rattle.fetch_definitions.specs.Words.{CspRequest, Input, Request, refusal_after, upgraded}
+use Rattle.fetch_definitions.specs.Then.{Context, Onward, Then, tell_all}
 
 -- so many clears after an error, and then the end
 abbrev pub clears : Context → ℕ → Then

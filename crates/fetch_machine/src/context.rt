@@ -15,7 +15,7 @@ pub(crate) struct Context<'a> {
 
 impl<'a> Model for Context<'a> {
     ghost use Rattle.std.specs.Prelude.{◌<◌, ◌^◌};
-    ghost use Rattle.fetch_machine.specs.Then as spec;
+    ghost use Rattle.fetch_definitions.specs.Then as spec;
 
     ghost Value = { spec.Context };
 

@@ -4,11 +4,11 @@ ghost use Rattle.value_requests.specs.Requests.{IsClient, IsRequest, is_http_url
 ghost use Rattle.fetch_answers.specs.Judging.{refusal_after as refusal_of};
 ghost use Rattle.fetch_answers.specs.Following.{redirected_request as after_redirect};
 ghost use Rattle.fetch_answers.specs.Redirects.{redirection as redirection_of};
-ghost use Rattle.fetch_machine.specs.Fetch.{onward_of};
-ghost use Rattle.fetch_machine.specs.HttpFetch as spec;
+ghost use Rattle.fetch_definitions.specs.Fetch.{onward_of};
+ghost use Rattle.fetch_definitions.specs.HttpFetch as spec;
 ghost use Rattle.fetch_machine.specs.Machine.{Leads, at_level, next_of};
 ghost use Rattle.fetch_machine.specs.Ready.{IsReady};
-ghost use Rattle.fetch_machine.specs.Then as shared;
+ghost use Rattle.fetch_definitions.specs.Then as shared;
 
 use crate::context::Context;
 use crate::main_fetch::begin;

@@ -7,9 +7,9 @@ ghost use Rattle.fetch_rules.specs.Referrers.{with_referrer as referred_for};
 ghost use Rattle.fetch_rules.specs.Switch.{with_tainting as tainted_with};
 ghost use Rattle.fetch_rules.specs.Upgrading.{secured as secured_as, secured_where};
 ghost use Rattle.fetch_machine.specs.Machine.{IsLevelWith, Leads, at_level};
-ghost use Rattle.fetch_machine.specs.MainFetch as spec;
+ghost use Rattle.fetch_definitions.specs.MainFetch as spec;
 ghost use Rattle.fetch_machine.specs.Ready.{IsReady};
-ghost use Rattle.fetch_machine.specs.Then.{tell_all};
+ghost use Rattle.fetch_definitions.specs.Then.{tell_all};
 ghost use Rattle.fetch_rules.specs.Upgrading.{upgraded as upgraded_for};
 
 use crate::context::Context;

@@ -5,7 +5,7 @@ ghost use Rattle.policy_preflight.specs.Verdict.{verdict as verdict_of};
 ghost use Rattle.value_requests.specs.Requests.{IsRequest};
 ghost use Rattle.policy_checks.specs.RequestOrigins.{serialized_request_origin};
 ghost use Rattle.fetch_machine.specs.Machine.{Leads, at_level};
-ghost use Rattle.fetch_machine.specs.PreflightFetch as spec;
+ghost use Rattle.fetch_definitions.specs.PreflightFetch as spec;
 ghost use Rattle.fetch_machine.specs.Ready.{IsReady};
 
 use crate::context::Context;

@@ -1,10 +1,10 @@
 // The calls of a fetch: it starts, and goes on from what came of its last act.
 ghost use Rattle.std.specs.Prelude.{◌≡◌, ◌∷◌, ◌<◌, ◌^◌, IfOk, IsTrue};
 ghost use Rattle.fetch_acts.specs.Process.{fits, run};
-ghost use Rattle.fetch_machine.specs.Fetch.{fetch};
+ghost use Rattle.fetch_definitions.specs.Fetch.{fetch};
 ghost use Rattle.fetch_machine.specs.Machine.{Leads, RunsAs, rest, rest_of};
-ghost use Rattle.fetch_machine.specs.Then as spec;
-ghost use Rattle.fetch_machine.specs.Then.{context_of};
+ghost use Rattle.fetch_definitions.specs.Then as spec;
+ghost use Rattle.fetch_definitions.specs.Then.{context_of};
 ghost use Rattle.value_requests.specs.Requests.{IsClient, IsRequest};
 
 use crate::context::Context;

@@ -6,11 +6,11 @@ ghost use Rattle.value_requests.specs.declared.error.NetError.{NetError as AnErr
 ghost use Rattle.value_requests.specs.declared.request.Request.{Request};
 ghost use Rattle.fetch_acts.specs.Process.{IsPlain, act as acting, ended as ended_with};
 ghost use Rattle.fetch_answers.specs.Endings.{after_body as outcome_of};
-ghost use Rattle.fetch_machine.specs.Fetch.{ends};
+ghost use Rattle.fetch_definitions.specs.Fetch.{ends};
 ghost use Rattle.fetch_machine.specs.Machine.{Does, Leads, next_of, rest_at};
 ghost use Rattle.fetch_machine.specs.Ready.{is_ready_at, owes_early};
-ghost use Rattle.fetch_machine.specs.Then as shared;
-ghost use Rattle.fetch_machine.specs.Then.{tell_all, then_ask};
+ghost use Rattle.fetch_definitions.specs.Then as shared;
+ghost use Rattle.fetch_definitions.specs.Then.{tell_all, then_ask};
 
 use crate::context::Context;
 use crate::place::{Fetching, Level, Place, Step};

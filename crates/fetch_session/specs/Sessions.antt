@@ -5,7 +5,7 @@ use Rattle.fetch_acts.specs.Process.{act, ended}
 use Rattle.fetch_acts.specs.declared.act.Act.{Act}
 use Rattle.fetch_acts.specs.declared.act.Input.{Input}
 use Rattle.fetch_machine.specs.Machine.{rest}
-use Rattle.fetch_machine.specs.Then.{Context, context_of}
+use Rattle.fetch_definitions.specs.Then.{Context, context_of}
 use Rattle.fetch_machine.specs.declared.place.Fetching.{Fetching}
 use Rattle.value_requests.specs.declared.response.Outcome.{Outcome}
 use Rattle.fetch_session.specs.Standings.{Standing, begun, first_act, fits_act, gone_on, outcome_at}

@@ -1,7 +1,7 @@
 // A fetch begins, and is told what came of acts that await no bytes.
 ghost use Rattle.std.specs.Prelude.{◌≡◌, ◌<◌, ◌^◌, IfOk, Some};
 ghost use Rattle.fetch_acts.specs.declared.act.Input.TheVariants.{Replied, Sent, Told};
-ghost use Rattle.fetch_machine.specs.Fetch.{fetch};
+ghost use Rattle.fetch_definitions.specs.Fetch.{fetch};
 ghost use Rattle.fetch_session.specs.Sessions.{Takes, context_at, standing_of};
 ghost use Rattle.fetch_session.specs.Standings.{begun};
 ghost use Rattle.value_requests.specs.Requests.{IsRequest};

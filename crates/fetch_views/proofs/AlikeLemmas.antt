@@ -1,7 +1,7 @@
 -- A whole fetch over what a document may learn of its answers.
 use Rattle.std.proofs.Common.{None}
 use Rattle.fetch_acts.specs.Readings.{showing}
-use Rattle.fetch_machine.specs.Fetch.{fetch}
+use Rattle.fetch_definitions.specs.Fetch.{fetch}
 use Rattle.fetch_views.specs.Views.{GoesByViews, RunsAlike, RunsApart, ShowsAlike}
 use Rattle.fetch_views.proofs.ApartLemmas.{read-same, run-apart, run-same, shows-blind}
 use Rattle.fetch_views.proofs.BlindLemmas.{blind-fetch}

@@ -49,13 +49,14 @@ use Rattle.fetch_answers.specs.Laws.{IsLast, IsPassed}
 use Rattle.fetch_answers.specs.Redirects.{redirection}
 use Rattle.fetch_answers.proofs.LawLemmas.{keeps_ending, keeps_redirected, keeps_redirection, keeps_refusal}
 use Rattle.value_origins.specs.Origins.{have_same_origin}
-use Rattle.fetch_machine.specs.Fetch.{again, ends, fetch, finished, onward_of}
-use Rattle.fetch_machine.specs.HttpFetch.{after_head, answered, http_fetch, judged, read_head, redirected}
-use Rattle.fetch_machine.specs.MainFetch.{checked, main_fetch, matched_by, switched_by, unless_refused}
-use Rattle.fetch_machine.specs.MainFetch.{unless_violated}
-use Rattle.fetch_machine.specs.PreflightFetch.{after_preflight_head, clearing, covered_or_not, names_of, preflight_answered}
-use Rattle.fetch_machine.specs.PreflightFetch.{preflight_judged, read_preflight_head}
-use Rattle.fetch_machine.specs.Then.{Context, Onward, Then, head_of, said_yes, tell_all, then_ask_where, was_sent}
+use Rattle.fetch_definitions.specs.Fetch.{again, ends, fetch, finished, onward_of}
+use Rattle.fetch_definitions.specs.HttpFetch.{after_head, answered, http_fetch, judged, read_head, redirected}
+use Rattle.fetch_definitions.specs.MainFetch.{checked, main_fetch, matched_by, switched_by, unless_refused}
+use Rattle.fetch_definitions.specs.MainFetch.{unless_violated}
+use Rattle.fetch_definitions.specs.PreflightFetch.{after_preflight_head, clearing, covered_or_not, names_of}
+use Rattle.fetch_definitions.specs.PreflightFetch.{preflight_answered}
+use Rattle.fetch_definitions.specs.PreflightFetch.{preflight_judged, read_preflight_head}
+use Rattle.fetch_definitions.specs.Then.{Context, Onward, Then, head_of, said_yes, tell_all, then_ask_where, was_sent}
 use Rattle.fetch_views.specs.Blind.{Blind}
 use Rattle.fetch_views.specs.Seen.{seen}
 

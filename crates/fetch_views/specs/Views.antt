@@ -7,8 +7,8 @@ use Rattle.fetch_acts.specs.declared.act.Act.{Act}
 use Rattle.fetch_acts.specs.declared.act.Input.{Input}
 use Rattle.fetch_acts.specs.Process.{Process, run}
 use Rattle.fetch_acts.specs.Readings.{shown}
-use Rattle.fetch_machine.specs.Fetch.{fetch}
-use Rattle.fetch_machine.specs.Then.{Context}
+use Rattle.fetch_definitions.specs.Fetch.{fetch}
+use Rattle.fetch_definitions.specs.Then.{Context}
 use Rattle.fetch_views.specs.Apart.{apart, plan_of, replies_on, views_on}
 use Rattle.fetch_views.specs.Blind.{Blind, ShowsNoHead}
 

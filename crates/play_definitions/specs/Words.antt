@@ -7,7 +7,7 @@ pub use Rattle.book_calls.specs.declared.book.Book.{Book}
 pub use Rattle.book_calls.specs.declared.entry.Entry.{Entry}
 pub use Rattle.book_calls.specs.declared.op.Op.{Op}
 pub use Rattle.book_calls.specs.declared.op.Op.TheVariants.{Note}
-pub use Rattle.fetch_machine.specs.Fetch.{fetch}
+pub use Rattle.fetch_definitions.specs.Fetch.{fetch}
 pub use Rattle.fetch_acts.specs.Process.{Process, ended}
 pub use Rattle.fetch_acts.specs.Traces.{Driven, Trace, with_events}
 pub use Rattle.fetch_acts.specs.declared.act.Act.{Act}

@@ -79,14 +79,14 @@ use Rattle.std.specs.Bool.{then_some}
 use Rattle.policy_filter.specs.Views.{is_error}
 use Rattle.fetch_answers.specs.Redirects.{extracted_url, redirection, redirection_by}
 use Rattle.fetch_answers.specs.Redirects.{redirection_where, shows_credentials}
-use Rattle.fetch_machine.specs.Fetch.{after_body, again, ends, fetch, finished, onward_of}
-use Rattle.fetch_machine.specs.HttpFetch.{after_head, after_sent, answered, http_fetch, judged, redirected}
-use Rattle.fetch_machine.specs.MainFetch.{after_match, checked, main_fetch, matched_by, switched_by}
-use Rattle.fetch_machine.specs.MainFetch.{unless_refused as unless_blocked}
-use Rattle.fetch_machine.specs.MainFetch.{unless_violated}
-use Rattle.fetch_machine.specs.PreflightFetch.{after_covers, after_preflight_head, after_preflight_sent, clearing}
-use Rattle.fetch_machine.specs.PreflightFetch.{covered_or_not, names_of, preflight_answered, preflight_judged}
-use Rattle.fetch_machine.specs.Then.{Context, Onward, Then, said_yes, tell_all, then_ask_where}
+use Rattle.fetch_definitions.specs.Fetch.{after_body, again, ends, fetch, finished, onward_of}
+use Rattle.fetch_definitions.specs.HttpFetch.{after_head, after_sent, answered, http_fetch, judged, redirected}
+use Rattle.fetch_definitions.specs.MainFetch.{after_match, checked, main_fetch, matched_by, switched_by}
+use Rattle.fetch_definitions.specs.MainFetch.{unless_refused as unless_blocked}
+use Rattle.fetch_definitions.specs.MainFetch.{unless_violated}
+use Rattle.fetch_definitions.specs.PreflightFetch.{after_covers, after_preflight_head, after_preflight_sent, clearing}
+use Rattle.fetch_definitions.specs.PreflightFetch.{covered_or_not, names_of, preflight_answered, preflight_judged}
+use Rattle.fetch_definitions.specs.Then.{Context, Onward, Then, said_yes, tell_all, then_ask_where}
 use Rattle.play_faults.specs.Failures.{Failure, IsBrokenAt, IsOnlyOne, ShowsFailure, broken, is_broken, owed_after}
 use Rattle.play_faults.specs.Failures.{tells_fault, unanswered}
 

@@ -7,7 +7,7 @@ use Rattle.value_requests.specs.declared.response.Outcome.{Outcome}
 use Rattle.value_requests.specs.declared.response.Outcome.TheVariants as outcome
 use Rattle.script_events.specs.declared.events.Event.{Event}
 use Rattle.fetch_acts.specs.Process.{Process, act, ended}
-use Rattle.fetch_machine.specs.Fetch.{fetch}
+use Rattle.fetch_definitions.specs.Fetch.{fetch}
 use Rattle.script_runs.specs.Play.{Play, emit, events_of}
 use Rattle.script_runs.specs.Runs.{Next, Progress, after_events, at_time, embed, fault_event, load_event}
 use Rattle.script_runs.specs.Runs.{outcome_event}

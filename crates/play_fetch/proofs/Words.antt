@@ -3,8 +3,8 @@ pub use Rattle.std.proofs.Common.{ap, append_assoc, arith, refl, rules, subst, s
 pub use Rattle.std.proofs.lemmas.List.{append-nil}
 pub use Rattle.std.proofs.lemmas.Result.{MatchResult-from_err, on_err_weaker}
 pub use Rattle.std.specs.Prelude.{IsTrue, List, [], length, ℕ, ◌++◌, ◌+◌, ◌<◌, ◌^◌, ◌∷◌, ◌≡◌, ◌≤◌}
-pub use Rattle.fetch_machine.specs.Fetch.{fetch}
-pub use Rattle.fetch_machine.specs.Then.{Context, context_of}
+pub use Rattle.fetch_definitions.specs.Fetch.{fetch}
+pub use Rattle.fetch_definitions.specs.Then.{Context, context_of}
 pub use Rattle.fetch_acts.specs.Process.{Process, act, ended, fits}
 pub use Rattle.fetch_acts.specs.Within.{Anything, Within, acts, asks, price_of}
 pub use Rattle.fetch_acts.specs.declared.act.Act.{Act}

@@ -1,9 +1,9 @@
 -- The words of other crates of which the specs and the contracts speak, each brought in once.
 pub use Rattle.book_calls.specs.Ops.{InRange}
 pub use Rattle.book_calls.specs.declared.entry.Entry.{Entry}
-pub use Rattle.fetch_machine.specs.Fetch.{fetch}
+pub use Rattle.fetch_definitions.specs.Fetch.{fetch}
 pub use Rattle.fetch_machine.specs.Machine.{Does, Leads, rest}
-pub use Rattle.fetch_machine.specs.Then.{Context, context_of}
+pub use Rattle.fetch_definitions.specs.Then.{Context, context_of}
 pub use Rattle.fetch_machine.specs.declared.place.Fetching.{Fetching}
 pub use Rattle.fetch_machine.specs.declared.place.Step.{Step}
 pub use Rattle.fetch_acts.specs.Process.{Process, act, fits}

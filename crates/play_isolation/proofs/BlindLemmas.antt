@@ -23,7 +23,7 @@ use Rattle.fetch_acts.specs.declared.act.Act.TheVariants.{Ask, Send, ReadHead, R
 use Rattle.fetch_acts.specs.declared.act.Input.{Input}
 use Rattle.fetch_acts.specs.Process.{Process, act, ended}
 use Rattle.script_scenarios.specs.declared.document.Document.{Document}
-use Rattle.fetch_machine.specs.Fetch.{fetch}
+use Rattle.fetch_definitions.specs.Fetch.{fetch}
 use Rattle.fetch_views.specs.Blind.{Blind, GoesBlind}
 use Rattle.fetch_views.specs.Seen.{seen, sent_by}
 use Rattle.fetch_views.proofs.BlindLemmas.{blind-fetch}

@@ -42,12 +42,13 @@ use Rattle.fetch_answers.specs.Following.{redirected_request}
 use Rattle.fetch_answers.specs.Judging.{refusal_after}
 use Rattle.fetch_answers.specs.Redirects.{redirection}
 use Rattle.script_scenarios.specs.declared.document.Document.{Document}
-use Rattle.fetch_machine.specs.Fetch.{again, ends, fetch, finished, onward_of}
-use Rattle.fetch_machine.specs.HttpFetch.{after_head, answered, http_fetch, judged, read_head, redirected}
-use Rattle.fetch_machine.specs.MainFetch.{checked, main_fetch, matched_by, switched_by, unless_refused, unless_violated}
-use Rattle.fetch_machine.specs.PreflightFetch.{after_preflight_head, clearing, covered_or_not, names_of}
-use Rattle.fetch_machine.specs.PreflightFetch.{preflight_judged, read_preflight_head}
-use Rattle.fetch_machine.specs.Then.{Context, Onward, Then, said_yes, tell_all, then_ask_where, was_sent}
+use Rattle.fetch_definitions.specs.Fetch.{again, ends, fetch, finished, onward_of}
+use Rattle.fetch_definitions.specs.HttpFetch.{after_head, answered, http_fetch, judged, read_head, redirected}
+use Rattle.fetch_definitions.specs.MainFetch.{checked, main_fetch, matched_by, switched_by, unless_refused}
+use Rattle.fetch_definitions.specs.MainFetch.{unless_violated}
+use Rattle.fetch_definitions.specs.PreflightFetch.{after_preflight_head, clearing, covered_or_not, names_of}
+use Rattle.fetch_definitions.specs.PreflightFetch.{preflight_judged, read_preflight_head}
+use Rattle.fetch_definitions.specs.Then.{Context, Onward, Then, said_yes, tell_all, then_ask_where, was_sent}
 use Rattle.script_runs.specs.Play.{Play, emit, events_of, over, step}
 use Rattle.script_runs.specs.Runs.{Next, Progress, after_events, at_time, document_run, embed, outcome_event}
 use Rattle.script_runs.specs.Runs.{setting_of}

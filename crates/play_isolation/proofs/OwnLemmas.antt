@@ -24,8 +24,8 @@ use Rattle.script_commands.specs.Scripts as script
 use Rattle.script_commands.specs.Valid.{AreValid, IsValidStep}
 use Rattle.script_scenarios.specs.declared.document.Document.{Document}
 use Rattle.script_events.specs.declared.events.Event.{Event}
-use Rattle.fetch_machine.specs.Fetch.{fetch}
-use Rattle.fetch_machine.specs.Then.{Context}
+use Rattle.fetch_definitions.specs.Fetch.{fetch}
+use Rattle.fetch_definitions.specs.Then.{Context}
 use Rattle.fetch_views.specs.Apart.{Made, Plan, calls_on, does, stops, with_call}
 use Rattle.fetch_laws.specs.Prices.{fetch_price}
 use Rattle.fetch_laws.specs.Own.{IsOwnAct}

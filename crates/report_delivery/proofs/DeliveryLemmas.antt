@@ -5,7 +5,7 @@ use Rattle.std.specs.Result.{IsErr}
 use Rattle.value_text.specs.declared.memory.OutOfMemory.{OutOfMemory}
 use Rattle.std.proofs.lemmas.List.{append-nil}
 use Rattle.fetch_acts.specs.declared.act.Input.{Input}
-use Rattle.fetch_machine.specs.Fetch.{fetch}
+use Rattle.fetch_definitions.specs.Fetch.{fetch}
 use Rattle.play_definitions.specs.Driving.{DriveCut, FetchPlayed}
 use Rattle.play_definitions.specs.Playing.{PlaysOn, RunPlayed}
 use Rattle.play_definitions.specs.Worlds.{Outside, Settles, World, WorldAnswers, WorldRefused, outside_of}

@@ -2,7 +2,7 @@
 pub use Rattle.std.specs.Borrow.{Bor}
 pub use Rattle.std.specs.List.{filter_map, flat_map}
 pub use Rattle.std.specs.Option.{option_map_or}
-pub use Rattle.fetch_machine.specs.Fetch.{fetch}
+pub use Rattle.fetch_definitions.specs.Fetch.{fetch}
 pub use Rattle.json.specs.Print.{quoted}
 pub use Rattle.policy_csp_text.specs.declared.policy.Directive.{Directive}
 pub use Rattle.policy_csp_text.specs.declared.policy.Policy.{Policy}

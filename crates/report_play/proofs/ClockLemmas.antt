@@ -5,7 +5,7 @@ use Rattle.std.proofs.Common.{Some, None, Result, Ok, Err, refl, arith}
 use Rattle.fetch_acts.specs.declared.act.Act.{Act}
 use Rattle.fetch_acts.specs.declared.act.Input.{Input}
 use Rattle.fetch_acts.specs.Process.{Process, act, ended}
-use Rattle.fetch_machine.specs.Fetch.{fetch}
+use Rattle.fetch_definitions.specs.Fetch.{fetch}
 use Rattle.fetch_wire.specs.Exchanges.{Answering}
 use Rattle.play_definitions.specs.Playing.{RunPlayed}
 use Rattle.play_definitions.specs.Worlds.{Outside}

@@ -19,7 +19,7 @@ use Rattle.script_scenarios.specs.declared.document.Document.{Document}
 use Rattle.script_events.specs.declared.events.Ending.{Ending}
 use Rattle.script_events.specs.declared.events.Ending.TheVariants.{Commands, Finished}
 use Rattle.script_events.specs.declared.events.Event.{Event}
-use Rattle.fetch_machine.specs.Fetch.{fetch}
+use Rattle.fetch_definitions.specs.Fetch.{fetch}
 use Rattle.script_runs.specs.Play.{Play, over, emit}
 use Rattle.script_filling.specs.Results.{holds}
 use Rattle.script_runs.specs.Runs.{Next, Progress, Setting, after_events, asked, at_time, beginning, chosen}

@@ -6,8 +6,8 @@ pub use Rattle.fetch_acts.specs.declared.act.Act.{Act}
 pub use Rattle.fetch_acts.specs.declared.act.Act.TheVariants.{Ask, ReadBody, ReadHead, Send, Tell}
 pub use Rattle.fetch_acts.specs.declared.act.Input.{Input}
 pub use Rattle.fetch_acts.specs.declared.act.Input.TheVariants.{Replied}
-pub use Rattle.fetch_machine.specs.Fetch.{fetch}
-pub use Rattle.fetch_machine.specs.Then.{Context, context_of}
+pub use Rattle.fetch_definitions.specs.Fetch.{fetch}
+pub use Rattle.fetch_definitions.specs.Then.{Context, context_of}
 pub use Rattle.fetch_requests.specs.Loading.{new_load}
 pub use Rattle.fetch_requests.specs.Making.{new_request}
 pub use Rattle.policy_csp_text.specs.declared.policy.Policy.{Policy}

@@ -29,11 +29,11 @@ use Rattle.value_requests.specs.declared.request.Referrer.{Referrer}
 use Rattle.policy_checks.specs.OriginHeader.{referrer_value}
 use Rattle.value_requests.specs.Targets.{host_value}
 use Rattle.fetch_rules.specs.Switch.{needs_preflight, with_tainting}
-use Rattle.fetch_machine.specs.Fetch.{fetch, finished, onward_of}
-use Rattle.fetch_machine.specs.HttpFetch.{http_fetch}
-use Rattle.fetch_machine.specs.MainFetch.{after_match, matched_by, switched}
-use Rattle.fetch_machine.specs.PreflightFetch.{with_preflight}
-use Rattle.fetch_machine.specs.Then.{Context, Onward, Then}
+use Rattle.fetch_definitions.specs.Fetch.{fetch, finished, onward_of}
+use Rattle.fetch_definitions.specs.HttpFetch.{http_fetch}
+use Rattle.fetch_definitions.specs.MainFetch.{after_match, matched_by, switched}
+use Rattle.fetch_definitions.specs.PreflightFetch.{with_preflight}
+use Rattle.fetch_definitions.specs.Then.{Context, Onward, Then}
 use Rattle.link_http1.specs.RequestHeads.{HasOneReading}
 use Rattle.fetch_wire.specs.Exchanges.{Answering, Exchange}
 use Rattle.play_definitions.specs.Worlds.{World}

@@ -23,11 +23,12 @@ use Rattle.fetch_acts.specs.declared.act.Input.TheVariants.{HeadIs, Replied}
 use Rattle.fetch_acts.specs.Process.{Process, ended}
 use Rattle.fetch_rules.specs.Questions.{clear_of, covers_of, learn_of}
 use Rattle.fetch_rules.specs.Switch.{needs_preflight}
-use Rattle.fetch_machine.specs.Fetch.{finished}
-use Rattle.fetch_machine.specs.HttpFetch.{http_fetch}
-use Rattle.fetch_machine.specs.PreflightFetch.{after_covers, after_preflight_head, after_preflight_sent, clearing, names_of}
-use Rattle.fetch_machine.specs.PreflightFetch.{preflight_judged, with_preflight}
-use Rattle.fetch_machine.specs.Then.{Context, Onward, Then, then_ask}
+use Rattle.fetch_definitions.specs.Fetch.{finished}
+use Rattle.fetch_definitions.specs.HttpFetch.{http_fetch}
+use Rattle.fetch_definitions.specs.PreflightFetch.{after_covers, after_preflight_head, after_preflight_sent, clearing}
+use Rattle.fetch_definitions.specs.PreflightFetch.{names_of}
+use Rattle.fetch_definitions.specs.PreflightFetch.{preflight_judged, with_preflight}
+use Rattle.fetch_definitions.specs.Then.{Context, Onward, Then, then_ask}
 use Rattle.link_http1.specs.declared.request_head.Asked.{Asked}
 use Rattle.fetch_wire.specs.Exchanges.{Answering, Exchange}
 use Rattle.play_definitions.specs.Worlds.{World}

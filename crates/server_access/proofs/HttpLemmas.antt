@@ -50,9 +50,9 @@ use Rattle.fetch_answers.specs.Endings.{ended_unblocked, ended_under, handed_ove
 use Rattle.fetch_answers.specs.Endings.{is_matched, response_of, type_error, without_body}
 use Rattle.fetch_answers.specs.Judging.{check_error, refusal_after}
 use Rattle.fetch_answers.specs.Redirects.{redirection, redirection_by}
-use Rattle.fetch_machine.specs.Fetch.{after_body, ends, finished}
-use Rattle.fetch_machine.specs.HttpFetch.{after_head, judged, redirected}
-use Rattle.fetch_machine.specs.Then.{Context, Onward, Then, tell_all, then_ask_where}
+use Rattle.fetch_definitions.specs.Fetch.{after_body, ends, finished}
+use Rattle.fetch_definitions.specs.HttpFetch.{after_head, judged, redirected}
+use Rattle.fetch_definitions.specs.Then.{Context, Onward, Then, tell_all, then_ask_where}
 
 -- the name of the field that known hosts are noted by
 abbrev pub sts : List ℕ

@@ -21,11 +21,11 @@ use Rattle.fetch_rules.specs.Referrers.{with_referrer}
 use Rattle.fetch_rules.specs.Switch.{away_switch, cors_switch, is_basic, needs_preflight, switch_of, with_tainting}
 use Rattle.fetch_rules.specs.Upgrading.{secured_where, upgraded}
 use Rattle.fetch_rules.specs.declared.switch.Switch.TheVariants.{Fetches, Preflights}
-use Rattle.fetch_machine.specs.HttpFetch.{http_fetch}
-use Rattle.fetch_machine.specs.MainFetch.{checked, main_fetch, matched, switched, switched_by, unless_refused}
-use Rattle.fetch_machine.specs.MainFetch.{unless_violated}
-use Rattle.fetch_machine.specs.PreflightFetch.{with_preflight}
-use Rattle.fetch_machine.specs.Then.{Context, Onward, Then, tell_all}
+use Rattle.fetch_definitions.specs.HttpFetch.{http_fetch}
+use Rattle.fetch_definitions.specs.MainFetch.{checked, main_fetch, matched, switched, switched_by, unless_refused}
+use Rattle.fetch_definitions.specs.MainFetch.{unless_violated}
+use Rattle.fetch_definitions.specs.PreflightFetch.{with_preflight}
+use Rattle.fetch_definitions.specs.Then.{Context, Onward, Then, tell_all}
 
 module _ (onward : Onward) (context : Context) (next : Then) where
   -- nothing is told, upgraded or blocked: the book is asked for the host

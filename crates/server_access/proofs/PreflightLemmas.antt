@@ -21,8 +21,8 @@ use Rattle.policy_preflight.specs.Verdict.{verdict}
 use Rattle.fetch_acts.specs.declared.act.Input.TheVariants.{HeadIs}
 use Rattle.fetch_rules.specs.Questions.{asked_method, covers_of, url_text}
 use Rattle.fetch_rules.specs.Switch.{needs_preflight}
-use Rattle.fetch_machine.specs.PreflightFetch.{after_preflight_head, names_of, preflight_judged}
-use Rattle.fetch_machine.specs.Then.{Context, Onward, Then, then_ask_where}
+use Rattle.fetch_definitions.specs.PreflightFetch.{after_preflight_head, names_of, preflight_judged}
+use Rattle.fetch_definitions.specs.Then.{Context, Onward, Then, then_ask_where}
 use Rattle.server_access.proofs.HttpLemmas.{no-note, sts}
 
 -- ---- the question

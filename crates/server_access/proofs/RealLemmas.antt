@@ -22,9 +22,9 @@ use Rattle.policy_checks.specs.RequestOrigins.{serialized_request_origin}
 use Rattle.fetch_acts.specs.declared.act.Input.TheVariants.{BodyIs, HeadIs}
 use Rattle.fetch_acts.specs.Process.{Process, ended}
 use Rattle.fetch_requests.specs.Heads.{hop_of}
-use Rattle.fetch_machine.specs.Fetch.{after_body, finished}
-use Rattle.fetch_machine.specs.HttpFetch.{after_head, after_sent, http_fetch}
-use Rattle.fetch_machine.specs.Then.{Context, Onward, Then}
+use Rattle.fetch_definitions.specs.Fetch.{after_body, finished}
+use Rattle.fetch_definitions.specs.HttpFetch.{after_head, after_sent, http_fetch}
+use Rattle.fetch_definitions.specs.Then.{Context, Onward, Then}
 use Rattle.link_http1.specs.Bodies.{body_end}
 use Rattle.link_http1.specs.Framings.{framing_of}
 use Rattle.link_http1.specs.declared.request_head.Asked.{Asked}

@@ -5,8 +5,8 @@ pub use Rattle.book_calls.specs.Book.{empty}
 pub use Rattle.book_calls.specs.Entries.{Legal}
 pub use Rattle.fetch_acts.specs.Process.{ended}
 pub use Rattle.fetch_acts.specs.declared.act.Input.{Input}
-pub use Rattle.fetch_machine.specs.Fetch.{fetch}
-pub use Rattle.fetch_machine.specs.Then.{Context}
+pub use Rattle.fetch_definitions.specs.Fetch.{fetch}
+pub use Rattle.fetch_definitions.specs.Then.{Context}
 pub use Rattle.fetch_requests.specs.Making.{new_request}
 pub use Rattle.fetch_rules.specs.Blocking.{refusal_before}
 pub use Rattle.fetch_rules.specs.Switch.{needs_preflight}

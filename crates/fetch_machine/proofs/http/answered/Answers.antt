@@ -1,7 +1,7 @@
 use Rattle.std.proofs.Common.{◌∙◌, ap, sym}
-use Rattle.fetch_machine.specs.Fetch.{onward_of}
+use Rattle.fetch_definitions.specs.Fetch.{onward_of}
 use Rattle.fetch_machine.specs.Machine.{next_of}
-use Rattle.fetch_machine.specs.Then.{Context}
+use Rattle.fetch_definitions.specs.Then.{Context}
 use Rattle.fetch_machine.proofs.MachineLemmas.{answered-notes, leads-same}
 use Rattle.fetch_machine.proofs.http.answered.Goals as goal
 

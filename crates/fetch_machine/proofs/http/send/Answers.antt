@@ -2,7 +2,7 @@ use Rattle.std.proofs.Common.{IsTrue, ap, subst, sym}
 use Rattle.value_text.proofs.SpaceLemmas.{token-lacks_space}
 use Rattle.value_text.specs.Ascii.{lacks_space}
 use Rattle.value_requests.specs.declared.hop.Hop.{Hop}
-use Rattle.fetch_machine.specs.Then.{Context}
+use Rattle.fetch_definitions.specs.Then.{Context}
 use Rattle.fetch_machine.proofs.http.send.Goals as goal
 
 pub sending-requires-clause-plain : goal.sending-requires-clause-plain

@@ -1,8 +1,8 @@
 use Rattle.std.proofs.Common.{◌∙◌, ap, sym}
-use Rattle.fetch_machine.specs.Fetch.{onward_of}
+use Rattle.fetch_definitions.specs.Fetch.{onward_of}
 use Rattle.fetch_machine.specs.Machine.{next_of}
-use Rattle.fetch_machine.specs.MainFetch.{matched_by}
-use Rattle.fetch_machine.specs.Then.{Context}
+use Rattle.fetch_definitions.specs.MainFetch.{matched_by}
+use Rattle.fetch_definitions.specs.Then.{Context}
 use Rattle.fetch_machine.proofs.MachineLemmas.{leads-same}
 use Rattle.fetch_machine.proofs.main_fetch.ask_host.Goals as goal
 

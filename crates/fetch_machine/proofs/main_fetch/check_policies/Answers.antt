@@ -1,8 +1,8 @@
 use Rattle.std.proofs.Common.{◌∙◌, ap, sym}
-use Rattle.fetch_machine.specs.Fetch.{onward_of}
+use Rattle.fetch_definitions.specs.Fetch.{onward_of}
 use Rattle.fetch_machine.specs.Machine.{next_of}
-use Rattle.fetch_machine.specs.MainFetch.{unless_violated}
-use Rattle.fetch_machine.specs.Then.{Context}
+use Rattle.fetch_definitions.specs.MainFetch.{unless_violated}
+use Rattle.fetch_definitions.specs.Then.{Context}
 use Rattle.fetch_machine.proofs.MachineLemmas.{leads-same, violated-blocks}
 use Rattle.fetch_machine.proofs.main_fetch.check_policies.Goals as goal
 

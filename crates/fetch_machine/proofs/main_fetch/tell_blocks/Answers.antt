@@ -2,7 +2,7 @@ use Rattle.std.proofs.Common.{Err, ap}
 use Rattle.value_lemmas.proofs.Lists.{drop-slice_get}
 use Rattle.value_requests.specs.declared.error.NetError.TheVariants.{CspRequest}
 use Rattle.fetch_machine.specs.Machine.{next_of}
-use Rattle.fetch_machine.specs.Then.{tell_all}
+use Rattle.fetch_definitions.specs.Then.{tell_all}
 use Rattle.fetch_machine.proofs.MachineLemmas.{does-same}
 use Rattle.fetch_machine.proofs.main_fetch.tell_blocks.Goals as goal
 

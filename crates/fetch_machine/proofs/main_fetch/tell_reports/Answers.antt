@@ -2,10 +2,10 @@ use Rattle.std.proofs.Common.{◌∙◌, ap, arith, sym}
 use Rattle.std.proofs.lemmas.List.{drop_all}
 use Rattle.value_lemmas.proofs.Lists.{drop-slice_get}
 use Rattle.fetch_rules.specs.Upgrading.{upgraded}
-use Rattle.fetch_machine.specs.Fetch.{onward_of}
+use Rattle.fetch_definitions.specs.Fetch.{onward_of}
 use Rattle.fetch_machine.specs.Machine.{next_of}
-use Rattle.fetch_machine.specs.MainFetch.{checked}
-use Rattle.fetch_machine.specs.Then.{tell_all}
+use Rattle.fetch_definitions.specs.MainFetch.{checked}
+use Rattle.fetch_definitions.specs.Then.{tell_all}
 use Rattle.fetch_machine.proofs.MachineLemmas.{does-same, leads-changed, leads-same, onward-same}
 use Rattle.fetch_machine.proofs.MachineLemmas.{upgraded-redirects}
 use Rattle.fetch_machine.proofs.main_fetch.tell_reports.Goals as goal

@@ -1,6 +1,6 @@
 use Rattle.std.proofs.Common.{ap}
-use Rattle.fetch_machine.specs.Fetch.{onward_of}
-use Rattle.fetch_machine.specs.Then.{Context}
+use Rattle.fetch_definitions.specs.Fetch.{onward_of}
+use Rattle.fetch_definitions.specs.Then.{Context}
 use Rattle.fetch_machine.proofs.MachineLemmas.{leads-same, with_preflight-owing}
 use Rattle.fetch_machine.proofs.preflight.ask_cache.Goals as goal
 

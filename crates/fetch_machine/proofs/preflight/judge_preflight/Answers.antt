@@ -1,5 +1,5 @@
 use Rattle.std.proofs.Common.{ap}
-use Rattle.fetch_machine.specs.Then.{Context}
+use Rattle.fetch_definitions.specs.Then.{Context}
 use Rattle.fetch_machine.proofs.preflight.judge_preflight.Goals as goal
 
 pub returns-in_ok-op-in-Pass : goal.returns-in_ok-op-in-Pass

@@ -1,7 +1,7 @@
 use Rattle.std.proofs.Common.{◌∙◌, ap, sym}
-use Rattle.fetch_machine.specs.Fetch.{onward_of}
+use Rattle.fetch_definitions.specs.Fetch.{onward_of}
 use Rattle.fetch_machine.specs.Machine.{next_of}
-use Rattle.fetch_machine.specs.Then.{Context}
+use Rattle.fetch_definitions.specs.Then.{Context}
 use Rattle.fetch_machine.proofs.MachineLemmas.{leads-same, preflight-notes}
 use Rattle.fetch_machine.proofs.preflight.preflight_answered.Goals as goal
 

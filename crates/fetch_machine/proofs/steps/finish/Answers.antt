@@ -1,5 +1,5 @@
 use Rattle.std.proofs.Common.{◌∙◌, ap}
-use Rattle.fetch_machine.specs.Then.{Context}
+use Rattle.fetch_definitions.specs.Then.{Context}
 use Rattle.fetch_machine.proofs.MachineLemmas.{finished-as, leads-same, next_of-head}
 use Rattle.fetch_machine.proofs.steps.finish.Goals as goal
 

@@ -1,7 +1,7 @@
 use Rattle.std.proofs.Common.{ap}
 use Rattle.value_lemmas.proofs.Lists.{drop-slice_get}
-use Rattle.fetch_machine.specs.Fetch.{ends}
-use Rattle.fetch_machine.specs.Then.{tell_all}
+use Rattle.fetch_definitions.specs.Fetch.{ends}
+use Rattle.fetch_definitions.specs.Then.{tell_all}
 use Rattle.fetch_machine.proofs.MachineLemmas.{does-same}
 use Rattle.fetch_machine.proofs.steps.tell_at_end.Goals as goal
 

@@ -1,8 +1,7 @@
 -- The words of other crates of which these definitions speak, each brought in once.
 pub use Rattle.book_calls.specs.declared.op.Op.{Op}
 pub use Rattle.book_calls.specs.declared.op.Reply.TheVariants.{Yes}
-pub use Rattle.fetch_acts.specs.Process.{IsPlain, Process, Run, act, began, ended, followed, run}
-pub use Rattle.fetch_acts.specs.declared.act.Act.{Act}
+pub use Rattle.fetch_acts.specs.Process.{Process, act, ended}
 pub use Rattle.fetch_acts.specs.declared.act.Act.TheVariants.{Ask, ReadBody, ReadHead, Send, Tell}
 pub use Rattle.fetch_acts.specs.declared.act.Input.{Input}
 pub use Rattle.fetch_acts.specs.declared.act.Input.TheVariants.{BodyIs, HeadBad, HeadIs, HeadLong, Replied, Sent}
@@ -44,4 +43,3 @@ pub use Rattle.value_requests.specs.declared.response.BodyEnd.TheVariants.{Null}
 pub use Rattle.value_requests.specs.declared.response.Outcome.TheVariants.{Error}
 pub use Rattle.value_requests.specs.declared.response.Response.{Response}
 pub use Rattle.value_text.specs.Texts.{Text}
-pub use Rattle.value_text.specs.declared.memory.OutOfMemory.{OutOfMemory}

@@ -2,11 +2,11 @@
 -- at its end the checks of the response and the reading of its body.
 -- Read it from the end: the last definition is the top one, and each hands on to those above it.
 use Rattle.std.specs.Prelude.{ℕ, zero, suc, ◌-◌, Ok, Err}
-use Rattle.fetch_machine.specs.Words.{Ended, Error, Input, Over, Process, ReadBody, Reads, Request, Response}
-use Rattle.fetch_machine.specs.Words.{TooManyRedirects, act, ended, ended_under, most_redirects, outcome_of}
-use Rattle.fetch_machine.specs.Words.{response_violations}
-use Rattle.fetch_machine.specs.MainFetch.{main_fetch}
-use Rattle.fetch_machine.specs.Then.{Context, Onward, Then, body_of, tell_all}
+use Rattle.fetch_definitions.specs.Words.{Ended, Error, Input, Over, Process, ReadBody, Reads, Request, Response}
+use Rattle.fetch_definitions.specs.Words.{TooManyRedirects, act, ended, ended_under, most_redirects, outcome_of}
+use Rattle.fetch_definitions.specs.Words.{response_violations}
+use Rattle.fetch_definitions.specs.MainFetch.{main_fetch}
+use Rattle.fetch_definitions.specs.Then.{Context, Onward, Then, body_of, tell_all}
 
 -- ---- the end
 

@@ -3,11 +3,13 @@
 -- of the request, as it is by then, is taken back.
 -- Read it from the end: the last definition is the top one, and each hands on to those above it.
 use Rattle.std.specs.Prelude.{Bool, List, Result, Ok, Err, if◌then◌else◌}
-use Rattle.fetch_machine.specs.Words.{Ask, Checked, Head, Input, LinkFault, NetError, Pass, Process, ReadHead, Refused}
-use Rattle.fetch_machine.specs.Words.{Request, Send, Text, act, clear_of, covers_of, learn_of, note_of, preflight_of}
-use Rattle.fetch_machine.specs.Words.{serialized_request_origin, unsafe_names, verdict}
-use Rattle.fetch_machine.specs.HttpFetch.{http_fetch}
-use Rattle.fetch_machine.specs.Then.{Context, Onward, Then, head_of, said_yes, then_ask, then_ask_where, was_sent}
+use Rattle.fetch_definitions.specs.Words.{Ask, Checked, Head, Input, LinkFault, NetError, Pass, Process, ReadHead}
+use Rattle.fetch_definitions.specs.Words.{Refused}
+use Rattle.fetch_definitions.specs.Words.{Request, Send, Text, act, clear_of, covers_of, learn_of, note_of}
+use Rattle.fetch_definitions.specs.Words.{preflight_of}
+use Rattle.fetch_definitions.specs.Words.{serialized_request_origin, unsafe_names, verdict}
+use Rattle.fetch_definitions.specs.HttpFetch.{http_fetch}
+use Rattle.fetch_definitions.specs.Then.{Context, Onward, Then, head_of, said_yes, then_ask, then_ask_where, was_sent}
 
 -- an error takes back what the preflight cache has learned of the request as it then is (main fetch, step 12, the case
 -- with a preflight), and is passed on

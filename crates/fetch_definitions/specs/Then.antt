@@ -1,9 +1,10 @@
 -- What the rules of a fetch share: what they are lent, what follows them, and what an input says (Fetch, section 4,
 -- where the steps return to the step that called them).
 use Rattle.std.specs.Prelude.{ℕ, Bool, true, false, List, [], ◌∷◌, Option, Some, None, Result, Ok, Err}
-use Rattle.fetch_machine.specs.Words.{Ask, BadHead, BodyEnd, BodyIs, Client, Cookie, Head, HeadBad, HeadIs, HeadLong}
-use Rattle.fetch_machine.specs.Words.{HeadTooBig, Input, LinkFault, NetError, Null, Op, Policy, Process, Replied}
-use Rattle.fetch_machine.specs.Words.{Request, Sent, Tell, Violation, Yes, act}
+use Rattle.fetch_definitions.specs.Words.{Ask, BadHead, BodyEnd, BodyIs, Client, Cookie, Head, HeadBad, HeadIs}
+use Rattle.fetch_definitions.specs.Words.{HeadLong}
+use Rattle.fetch_definitions.specs.Words.{HeadTooBig, Input, LinkFault, NetError, Null, Op, Policy, Process, Replied}
+use Rattle.fetch_definitions.specs.Words.{Request, Sent, Tell, Violation, Yes, act}
 
 -- What a fetch is lent: the client that fetches, its policies, the table of cookies, and the time.
 pub record Context : Type 0 where

@@ -2,10 +2,11 @@
 -- and judged, and a redirect goes on.
 -- Read it from the end: the last definition is the top one, and each hands on to those above it.
 use Rattle.std.specs.Prelude.{Bool, Option, Some, None, Result, Ok, Err, if◌then◌else◌}
-use Rattle.fetch_machine.specs.Words.{Goes, Head, Input, LinkFault, NetError, Process, ReadHead, Redirection, Refuses}
-use Rattle.fetch_machine.specs.Words.{Request, Send, Stays, act, hop_of, note_of, redirected_request, redirection}
-use Rattle.fetch_machine.specs.Words.{refusal_after}
-use Rattle.fetch_machine.specs.Then.{Context, Onward, Then, head_of, then_ask_where, was_sent}
+use Rattle.fetch_definitions.specs.Words.{Goes, Head, Input, LinkFault, NetError, Process, ReadHead, Redirection}
+use Rattle.fetch_definitions.specs.Words.{Refuses}
+use Rattle.fetch_definitions.specs.Words.{Request, Send, Stays, act, hop_of, note_of, redirected_request, redirection}
+use Rattle.fetch_definitions.specs.Words.{refusal_after}
+use Rattle.fetch_definitions.specs.Then.{Context, Onward, Then, head_of, then_ask_where, was_sent}
 
 -- HTTP-redirect fetch: the answer is the response (its step 4), or is refused (steps 5 to 10), or main fetch goes on at
 -- the new URL (step 22)

@@ -3,12 +3,13 @@
 use Rattle.std.specs.Prelude.{true, false, List, [], ◌∷◌, Option, Some, None, Err, if◌then◌else◌}
 use Rattle.value_requests.specs.declared.mode.Tainting.TheVariants as tainting
 use Rattle.fetch_rules.specs.declared.switch.Switch.TheVariants.{Fetches, Preflights, Refuses}
-use Rattle.fetch_machine.specs.Words.{Ask, CspRequest, Input, NetError, Op, Process, Request, Scheme, Switch, Violation}
-use Rattle.fetch_machine.specs.Words.{act, current_url, is_http_url, match_of, refusal_before, request_violations}
-use Rattle.fetch_machine.specs.Words.{secured_where, switch_of, upgraded, with_referrer, with_tainting}
-use Rattle.fetch_machine.specs.HttpFetch.{http_fetch}
-use Rattle.fetch_machine.specs.PreflightFetch.{with_preflight}
-use Rattle.fetch_machine.specs.Then.{Context, Onward, Then, said_yes, tell_all}
+use Rattle.fetch_definitions.specs.Words.{Ask, CspRequest, Input, NetError, Op, Process, Request, Scheme, Switch}
+use Rattle.fetch_definitions.specs.Words.{Violation}
+use Rattle.fetch_definitions.specs.Words.{act, current_url, is_http_url, match_of, refusal_before, request_violations}
+use Rattle.fetch_definitions.specs.Words.{secured_where, switch_of, upgraded, with_referrer, with_tainting}
+use Rattle.fetch_definitions.specs.HttpFetch.{http_fetch}
+use Rattle.fetch_definitions.specs.PreflightFetch.{with_preflight}
+use Rattle.fetch_definitions.specs.Then.{Context, Onward, Then, said_yes, tell_all}
 
 -- the switch of main fetch (step 12): HTTP fetch with a tainting, with a preflight, or a network error
 abbrev pub switched_by : Onward → Context → Then → Request → Switch → Process
