@@ -21,15 +21,7 @@ fn play_over<R: Threads + Wait + Sync>(
 ) -> Result<(), Failed> {
     let words = words_of(alloc, b"net")?;
     let mut streams = Streams::of(alloc, b"", scenario)?;
-    runs::play(
-        rt,
-        alloc,
-        words.as_slice(),
-        &mut streams,
-        links,
-        now,
-        shown,
-    );
+    runs::play(rt, alloc, words.as_slice(), &mut streams, links, now, shown);
     show_links(links, shown);
     shown.add(streams.complaints());
     shown.add(streams.output());
