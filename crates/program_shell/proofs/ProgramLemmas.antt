@@ -5,8 +5,6 @@ use Rattle.link_traits.proofs.SourceLemmas.{gave-all, gave-short}
 use Rattle.link_traits.specs.Counts.{Rose}
 use Rattle.link_traits.specs.Sinks.{SinkTold}
 use Rattle.link_traits.specs.Sources.{Gave, SourceTold}
-use Rattle.value_text.specs.declared.memory.OutOfMemory.{OutOfMemory}
-use Rattle.link_traits.specs.declared.sink.WriteFault.{WriteFault}
 use Rattle.program_shell.specs.Complaints.{CannotComplain, HasComplained, IsAnswer}
 use Rattle.program_shell.specs.Inputs.{IsRead, IsUnread, IsWhole, IsWhyStopped, Reads}
 use Rattle.program_shell.specs.Inputs.{Refuses}

@@ -1,5 +1,6 @@
 // Texts that are written whole.
-ghost use Rattle.std.specs.Prelude.{◌≤◌, ◌++◌, OnErr, OnOk};
+ghost use Rattle.std.specs.Prelude.{◌≡◌, ◌≤◌, ◌++◌, Err, OnErr, OnOk};
+ghost use Rattle.link_traits.specs.Counts.{Rose};
 ghost use Rattle.link_traits.specs.Sinks.{Took, TookPart};
 ghost use Rattle.program_shell.specs.Sinks.{Failed};
 ghost use Rattle.program_shell.specs.Statuses.{line};
@@ -13,6 +14,8 @@ pub fn write_text<K: Sink>(sink: &mut K, text: &[u8]) -> Result<(), WriteFault>
     ensures faults { (K.takes sink.old).faults ≤ (K.takes sink.new).faults }
     ensures zeros { (K.takes sink.old).zeros ≤ (K.takes sink.new).zeros }
     ensures failed { OnErr result (Failed (K.takes sink.old) (K.takes sink.new)) }
+    ensures fault { result ≡ Err WriteFault.Fault → Rose (K.takes sink.old).faults (K.takes sink.new).faults }
+    ensures nothing { result ≡ Err WriteFault.TookNothing → Rose (K.takes sink.old).zeros (K.takes sink.new).zeros }
 {
     match write_whole(sink, text) {
         Ok(()) => Ok(()),
@@ -28,6 +31,8 @@ fn write_two<K: Sink>(sink: &mut K, first: &[u8], second: &[u8]) -> Result<(), W
     ensures faults { (K.takes sink.old).faults ≤ (K.takes sink.new).faults }
     ensures zeros { (K.takes sink.old).zeros ≤ (K.takes sink.new).zeros }
     ensures failed { OnErr result (Failed (K.takes sink.old) (K.takes sink.new)) }
+    ensures fault { result ≡ Err WriteFault.Fault → Rose (K.takes sink.old).faults (K.takes sink.new).faults }
+    ensures nothing { result ≡ Err WriteFault.TookNothing → Rose (K.takes sink.old).zeros (K.takes sink.new).zeros }
 {
     if let Err(fault) = write_text(sink, first) {
         return Err(fault);
@@ -43,6 +48,8 @@ pub fn write_line<K: Sink>(sink: &mut K, head: &[u8], detail: &[u8]) -> Result<(
     ensures faults { (K.takes sink.old).faults ≤ (K.takes sink.new).faults }
     ensures zeros { (K.takes sink.old).zeros ≤ (K.takes sink.new).zeros }
     ensures failed { OnErr result (Failed (K.takes sink.old) (K.takes sink.new)) }
+    ensures fault { result ≡ Err WriteFault.Fault → Rose (K.takes sink.old).faults (K.takes sink.new).faults }
+    ensures nothing { result ≡ Err WriteFault.TookNothing → Rose (K.takes sink.old).zeros (K.takes sink.new).zeros }
 {
     if let Err(fault) = write_text(sink, head) {
         return Err(fault);
