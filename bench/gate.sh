@@ -33,7 +33,7 @@ laid() {
 # The crates of a folder in so many groups of about as many lines, a group a line.
 groups() {
     local name lines
-    sed -n 's/^\([a-z_0-9]*\).*:.*/\1/p' "$1/crates.txt" | while read -r name; do
+    sed -n 's/^\([a-z][a-z_0-9]*\).*:.*/\1/p' "$1/crates.txt" | while read -r name; do
         lines=$(find "$1/crates/$name" -name '*.rt' -o -name '*.antt' | xargs cat | wc -l)
         echo "$name $lines"
     done | awk -v steps="$2" '
