@@ -1,28 +1,23 @@
 // Plays worked rows over streams and links in memory, and prints for each what it came to. A line of the input that
 // begins with `#` is a title, which is printed as it is, and so is an empty line. The other lines are
 //
-//     a scenario, or some words, a tab and a scenario: it is played by the program's top call, or by those that report
-//     or audit. `rows.rt` says how.
+//     a scenario, or some words, a tab and a scenario: it is played by the top call of `fetchplay`, or by those of
+//     `cspreport` and `playaudit`. `inputs.rt` of `rows_links` says how it is written.
 //     `url=URL ..`, a tab and what a request meets: it is fetched by itself. `requests.rt` of `rows_fetches` says how.
 //     `{ .. }`, a tab and what a document meets: the lines of this kind up to an empty line are played over one book.
 //     `documents.rt` of `rows_fetches` says how.
 //     `net=TIME`, a tab and a scenario, and after it lines that begin with `link`, up to an empty line: it is played
-//     by the top call with the word `net`. `net.rt` says how.
-//     `program`, a tab and texts: a run of the server that answers by an allow table. `servers.rt` says how.
+//     by the top call with the word `net`. `net.rt` of `rows_runs` says how.
+//     `program`, a tab and texts: a run of the server that answers by an allow table. `servers.rt` of `rows_runs` says
+//     how.
 //     a word of `access.rt` of `rows_fetches`, a tab and texts: such a server by itself, and documents that ask it.
 //
-// Before them it plays documents on threads, over links that wait for each other: `gates.rt` by the top call,
-// `seats.rt` of `rows_fetches` by `play_all` itself.
+// Before them it plays documents on threads, over links that wait for each other: by the top call, as `gates.rt` of
+// `rows_runs` says, and by `play_all` itself, as `seats.rt` of `rows_fetches` does.
 #![tactic(auto)]
 
-mod gates;
-mod net;
-mod reports;
-mod rows;
-mod runs;
-mod servers;
-
 use rows_fetches::{kind_of, play_access, play_group, play_on_seats, play_request};
+use rows_runs::{play_gates, play_net, play_row, play_server};
 use rows_shell::{Failed, Shown, is_title, print_text};
 use std::io;
 use std::process::ExitCode;
@@ -38,7 +33,7 @@ fn play_together<R: Threads + Wait + Sync + AllocGlobal>(
 ) -> Result<(), Failed> {
     match lines {
         [first, rest @ ..] => match first.strip_prefix("net=") {
-            Some(row) => net::play(rt, row, rest, shown),
+            Some(row) => play_net(rt, row, rest, shown),
             None => play_group(rt, lines, shown),
         },
         [] => Ok(()),
@@ -53,17 +48,17 @@ fn stands_together(line: &str) -> bool {
 }
 
 // Plays a row of a server, or of another program.
-fn play_row<R: Threads + Wait + Sync + AllocGlobal>(
+fn play_program<R: Threads + Wait + Sync + AllocGlobal>(
     rt: &R,
     line: &str,
     shown: &mut Shown,
 ) -> Result<(), Failed> {
     if before_byte(line.as_bytes(), b'\t') == b"program".as_slice() {
-        return servers::play(rt.alloc(), line.as_bytes(), shown);
+        return play_server(rt.alloc(), line.as_bytes(), shown);
     }
     match kind_of(line.as_bytes()) {
         Ok(kind) => play_access(rt, kind, line.as_bytes(), shown),
-        Err(_) => rows::play(rt, line, shown),
+        Err(_) => play_row(rt, line, shown),
     }
 }
 
@@ -80,7 +75,7 @@ fn play_alone<R: Threads + Wait + Sync + AllocGlobal>(
     } else if line.starts_with("url=") {
         play_request(rt, line, shown)
     } else {
-        play_row(rt, line, shown)
+        play_program(rt, line, shown)
     }
 }
 
@@ -130,7 +125,7 @@ fn play_all<R: Threads + Wait + Sync + AllocGlobal>(
     rt: &R,
     shown: &mut Shown,
 ) -> Result<(), Failed> {
-    gates::play(rt, shown)?;
+    play_gates(rt, shown)?;
     shown.add(b"\n");
     play_on_seats(rt, shown)
 }

@@ -72,8 +72,8 @@ fn play_pieces<R: Threads + Wait + Sync>(
     Ok(())
 }
 
-// Plays a row.
-pub(crate) fn play<R: Threads + Wait + Sync + AllocGlobal>(
+/// Plays a row.
+pub fn play_row<R: Threads + Wait + Sync + AllocGlobal>(
     rt: &R,
     line: &str,
     shown: &mut Shown,

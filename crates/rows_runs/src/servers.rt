@@ -35,8 +35,8 @@ fn run(alloc: Global, row: &Row, shown: &mut Shown) -> Result<(), Failed> {
     Ok(())
 }
 
-// Shows a row, and what it comes to.
-pub(crate) fn play(alloc: Global, line: &[u8], shown: &mut Shown) -> Result<(), Failed> {
+/// Shows a row, and what it comes to.
+pub fn play_server(alloc: Global, line: &[u8], shown: &mut Shown) -> Result<(), Failed> {
     shown.add(line);
     shown.add(b" => ");
     let row = Row::of(alloc, line, b'\t')?;

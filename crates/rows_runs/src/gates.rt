@@ -65,8 +65,8 @@ fn play_over<R: Threads + Wait + Sync>(
     Ok(())
 }
 
-// Plays all of them.
-pub(crate) fn play<R: Threads + Wait + Sync + AllocGlobal>(
+/// Plays all of them.
+pub fn play_gates<R: Threads + Wait + Sync + AllocGlobal>(
     rt: &R,
     shown: &mut Shown,
 ) -> Result<(), Failed> {

@@ -28,8 +28,8 @@ fn play_over<R: Threads + Wait + Sync>(
     Ok(())
 }
 
-// Plays a row, which has the time and a scenario, over the links of others.
-pub(crate) fn play<R: Threads + Wait + Sync + AllocGlobal>(
+/// Plays a row, which has the time and a scenario, over the links of the lines after it.
+pub fn play_net<R: Threads + Wait + Sync + AllocGlobal>(
     rt: &R,
     row: &str,
     rows: &[&str],
