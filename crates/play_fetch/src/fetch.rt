@@ -89,6 +89,7 @@ fn play_fetch<R: Threads + Wait + Sync, S: Share, L: Link>(
     // how many acts were answered, so that the loop ends
     let mut acts: u128 = 0;
     let lent = player.lent;
+    // the proof reads off this call that the policies are few
     let _policies = lent.policies.len();
     let mut step = Fetching::start(
         *lent.alloc,

@@ -281,7 +281,7 @@ fn tell_call_line<R: Receiver>(receiver: &mut R, op: &Op, reply: Reply) -> Resul
     receiver.text(b"\n")
 }
 
-/// Tells the lines of an event to a text. Where memory is refused the text is any.
+/// Tells the lines of an event to a receiver. Where the receiver refuses, what it kept is any.
 pub fn tell_event<R: Receiver>(receiver: &mut R, event: &Event) -> Result<(), R::Refusal>
     ensures { OnOk result (Told (R.kept receiver.old) (R.kept receiver.new) (spec.event_text event.now)) }
 {
