@@ -50,9 +50,9 @@ FOLDERS = {
 }
 
 # What scripts need of the folders that have checks beside it.
-VIEW = ["page.html", "page.py", "view.css"]
+VIEW = ["page.html", "page.py", "telling.py", "view.css"]
 COMMANDS = ["answers.py", "asking.py", "auditing.py", "case.py", "csp.py", "doubts.py", "expectations.py", "explanations.py", "json_text.py",
             "play_text.py", "refusals.py", "relay.py", "results.py", "running.py", "scenario.py", "schema.py", "streams.py",
             "told.py"]
 PLAYGROUND = ["page.html", "playground.css", "documents.py", "gate.py", "markdown.py", "page.py", "player.py",
-              "questions.py", "serve.py"]
+              "peers.py", "questions.py", "serve.py", "turns.py"]

@@ -6,12 +6,14 @@ const fs = require("fs");
 const net = require("net");
 const path = require("path");
 const { spawn } = require("child_process");
+const { readTold } = require("../view/told.js");
 
 const PATIENCE = 600000; // milliseconds: where the program is not built it is built first
 
 // A playground that listens at a free port. `program` is named to it as FETCHPLAY.
 class Playground {
   constructor(root, { program, seconds }) {
+    this.root = root;
     const words = ["0", ...(seconds === undefined ? [] : ["--seconds", String(seconds)])];
     const env = program === undefined ? process.env : { ...process.env, FETCHPLAY: program };
     this.process = spawn(path.join(root, "bin", "playground"), words, { env, stdio: ["ignore", "pipe", "inherit"] });
@@ -29,31 +31,41 @@ class Playground {
     this.token = /"token": "([\w-]+)"/.exec(await (await fetch(this.address)).text())[1];
   }
 
-  // The status, the headers and the body of the answer to a request, as it is written here.
-  ask(method, target, headers, body = "") {
+  // Sends a request, as it is written here.
+  begin(method, target, headers, body = "") {
     const lines = Object.entries({ Host: this.host, ...headers }).filter(([, value]) => value !== null);
     const head = [method + " " + target + " HTTP/1.1", ...lines.map(([name, value]) => name + ": " + value)];
-    return new Promise((resolve, reject) => {
-      const socket = net.connect(Number(this.host.split(":")[1]), "127.0.0.1");
+    const socket = net.connect(Number(this.host.split(":")[1]), "127.0.0.1");
+    socket.on("error", () => {});
+    socket.write(head.join("\r\n") + "\r\n\r\n" + body);
+    return socket;
+  }
+
+  // The status, the headers and the body of the answer to it. The status is NaN where there is none.
+  ask(method, target, headers, body = "") {
+    const socket = this.begin(method, target, headers, body);
+    return new Promise((resolve) => {
       let text = "";
       socket.setEncoding("latin1");
       socket.on("data", (piece) => {
         text += piece;
       });
-      socket.on("error", reject);
       socket.on("close", () => {
         const [answer, ...parts] = text.split("\r\n\r\n");
         resolve({ status: Number(answer.split(" ")[1]), head: answer, body: parts.join("\r\n\r\n") });
       });
-      socket.write(head.join("\r\n") + "\r\n\r\n" + body);
     });
+  }
+
+  // What the page sends with a play.
+  headersOf(scenario) {
+    return { Origin: "http://" + this.host, "X-Playground-Token": this.token,
+      "Content-Length": Buffer.byteLength(scenario), "Sec-Fetch-Site": "same-origin" };
   }
 
   // A play, asked as the page asks it, unless `headers` say otherwise.
   play(scenario, headers = {}) {
-    const own = { Origin: "http://" + this.host, "X-Playground-Token": this.token,
-      "Content-Length": Buffer.byteLength(scenario), "Sec-Fetch-Site": "same-origin" };
-    return this.ask("POST", "/play", { ...own, ...headers }, scenario);
+    return this.ask("POST", "/play", { ...this.headersOf(scenario), ...headers }, scenario);
   }
 
   async close() {
@@ -67,6 +79,11 @@ class Playground {
 const EMPTY = '{"format":1,"documents":[]}';
 const PLAYED = { text: "fetchplay 1\nhistory\ndone\n" };
 
+// The play of an answer, without what is said between its lines.
+function playIn(body) {
+  return readTold(JSON.parse(body).text || "").play;
+}
+
 async function checkOwn(playground, compare) {
   const played = await playground.play(EMPTY);
   compare("the own page: its play", [played.status, JSON.parse(played.body)], [200, PLAYED]);
@@ -78,6 +95,11 @@ async function checkOwn(playground, compare) {
   const link = await playground.ask("GET", "/", { "Sec-Fetch-Site": "cross-site", "Sec-Fetch-Mode": "navigate",
     "Sec-Fetch-Dest": "document" });
   compare("a link that leads here from elsewhere", link.status, 200);
+  const folder = path.join(playground.root, "gallery", "star-with-credentials");
+  const scenario = fs.readFileSync(path.join(folder, "scenario.json"), "utf8");
+  const told = JSON.parse((await playground.play(scenario)).body).text;
+  const parts = ["\n# why: ", "\n# change: ", "\n< HTTP/1.1 200 "];
+  compare("a play: what is said of it", parts.filter((part) => !told.includes(part)), []);
   const rule = await playground.ask("GET", "/docs/rules/preflight.md", {});
   compare("a rule", [rule.status, rule.body.includes("preflight")], [200, true]);
 }
@@ -159,6 +181,13 @@ function isAlive(pid) {
   return fs.existsSync(file) && !/\) Z /.test(fs.readFileSync(file, "latin1"));
 }
 
+// By the lines that each program writes when it starts and when it ends.
+function mostAtOnce(lines) {
+  const running = lines.map((line, index) => lines.slice(0, index + 1).reduce(
+    (count, one) => count + (one === "start" ? 1 : one === "end" ? -1 : 0), 0));
+  return Math.max(...running);
+}
+
 async function checkLimits(playground, folder, seconds, compare) {
   const failure = async (scenario) => JSON.parse((await playground.play(scenario)).body).failure;
   compare("a play that takes too long", await failure("sleeps"),
@@ -171,9 +200,8 @@ async function checkLimits(playground, folder, seconds, compare) {
   compare("a program that fails", await failure("fails"), "fetchplay: out of memory (status 5)");
   const before = notes().length;
   const all = await Promise.all(Array.from({ length: 5 }, () => playground.play("short")));
-  compare("five plays at once", all.map(({ body }) => JSON.parse(body)), all.map(() => PLAYED));
-  compare("five plays at once: one after the other", notes().slice(before - 1, -1),
-    Array.from({ length: 10 }, (nothing, index) => (index % 2 === 0 ? "start" : "end")));
+  compare("five plays at once", all.map(({ body }) => playIn(body)), all.map(() => PLAYED.text));
+  compare("five plays at once: how many side by side", mostAtOnce(notes().slice(before - 1)) <= 2, true);
 }
 
-module.exports = { PROGRAM, Playground, checkLimits, checkOthers, checkOwn };
+module.exports = { PROGRAM, Playground, checkLimits, checkOthers, checkOwn, isAlive, playIn };

@@ -1,6 +1,6 @@
 "use strict";
 
-// Asks the server for plays, one at a time: while it plays, only the last text that was wanted is kept.
+// Asks the server for plays, one at a time: a play that another text has overtaken is given up.
 
 class Asking {
   constructor({ token, answered }) {
@@ -13,6 +13,7 @@ class Asking {
   async want(text) {
     this.wanted = text;
     if (this.isAsking) {
+      this.given.abort();
       return;
     }
     this.isAsking = true;
@@ -29,12 +30,14 @@ class Asking {
 
   // What the server says: the `text` of a play, the `place` where the scenario is refused, or a `failure`.
   async ask(text) {
+    this.given = new AbortController();
     const body = new Blob([text]);
     if (body.size > LONGEST_SCENARIO) {
       return { failure: "a scenario has no more than " + LONGEST_SCENARIO + " bytes" };
     }
     try {
-      const response = await fetch("/play", { method: "POST", body, headers: { "X-Playground-Token": this.token } });
+      const response = await fetch("/play", { method: "POST", body, signal: this.given.signal,
+        headers: { "X-Playground-Token": this.token } });
       return response.ok ? await response.json() : { failure: (await response.text()).trim() };
     } catch (error) {
       return { failure: "the playground does not answer; is bin/playground still running?" };

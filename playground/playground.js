@@ -59,6 +59,12 @@ const asking = new Asking({ token: given.token, answered: (text, answer) => {
   }
 } });
 
+// Another text, of a question or a link: nothing of it is folded.
+function showText(text) {
+  shownChoice.folded.clear();
+  editor.setText(text);
+}
+
 // ---- the link and the question
 
 async function keepLink(text) {
@@ -97,7 +103,7 @@ function fillQuestions() {
   byId("question").onchange = (event) => {
     const question = allQuestions.find(({ name }) => name === event.target.value);
     if (question !== undefined) {
-      editor.setText(question.scenario);
+      showText(question.scenario);
     }
   };
 }
@@ -111,7 +117,7 @@ async function openLink() {
     return;
   }
   if (text === null ? editor.text() === "" : text !== editor.text()) {
-    editor.setText(text === null ? allQuestions[0].scenario : text);
+    showText(text === null ? allQuestions[0].scenario : text);
   }
 }
 

@@ -2,20 +2,21 @@
 
     GET /            the page, with the token
     GET /docs/...    a document of the repository, as a page
-    POST /play       a scenario; the answer is JSON: the `text` of its play, or the `place` where it is refused, or a
-                     `failure`, in a sentence"""
+    POST /play       a scenario; the answer is JSON: the `text` of its play with what bin/why says of it, or the `place`
+                     where it is refused, or a `failure`, in a sentence"""
 import http.server
 import json
 import secrets
 import socket
-import threading
 import time
 
 from playground import page
 from playground.gate import Gate
+from playground.peers import Peers
 from playground.player import MOST_SCENARIO, Failure
+from view import telling
 
-PATIENCE = 10  # seconds that a peer may be silent
+PATIENCE = 10  # seconds in all for a request and its answer; a play in between is not counted
 LINGER = 2  # seconds
 MOST_PEERS = 32
 ALWAYS = {
@@ -33,6 +34,7 @@ class Server(http.server.ThreadingHTTPServer):
     """A server of one playground: `player` plays, and `documents` has the pages that are linked to, by their paths."""
 
     daemon_threads = True
+    request_queue_size = 128
 
     def __init__(self, port, player, root, documents):
         super().__init__(("127.0.0.1", port), Handler)
@@ -42,20 +44,21 @@ class Server(http.server.ThreadingHTTPServer):
         self.player = player
         self.documents = documents
         self.page = page.made(root, token)
-        self.peers = threading.BoundedSemaphore(MOST_PEERS)
+        self.peers = Peers(MOST_PEERS, PATIENCE)
 
     def process_request(self, request, client_address):
-        """One peer more than the most is not answered."""
-        if self.peers.acquire(blocking=False):
+        if self.peers.enter(request):
             super().process_request(request, client_address)
         else:
             self.shutdown_request(request)
 
-    def process_request_thread(self, request, client_address):
-        try:
-            super().process_request_thread(request, client_address)
-        finally:
-            self.peers.release()
+    def service_actions(self):
+        """What serve_forever does again and again."""
+        self.peers.cut_late()
+
+    def shutdown_request(self, request):
+        self.peers.leave(request)
+        super().shutdown_request(request)
 
     def handle_error(self, request, client_address):
         """A peer that is gone is no error of the server."""
@@ -93,7 +96,10 @@ class Handler(http.server.BaseHTTPRequestHandler):
             self.tell(400, "The scenario was cut.")
             return
         try:
-            shown = self.server.player.play(scenario)
+            with self.server.peers.playing(self.connection):
+                shown = self.server.player.play(scenario, self.connection)
+                if "text" in shown:
+                    shown["text"] = telling.told_text(scenario, shown["text"])
         except Failure as failure:
             shown = {"failure": str(failure)}
         self.answer(200, "application/json", json.dumps(shown).encode("ascii"))

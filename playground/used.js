@@ -3,6 +3,7 @@
 // What playground/check does in a browser: it draws each question, edits, follows a link, and asks from another origin.
 
 const http = require("http");
+const { checkPhone } = require("../view/drawn.js");
 
 const STATE = "document.getElementById('state').textContent";
 // What the page says where the program or the server fails: nothing that is awaited then comes.
@@ -180,6 +181,32 @@ async function checkLink(browser, check, address) {
   check.compare("a link that is none", await browser.value(STATE), "The link holds no scenario that can be read.");
 }
 
+// ---- what bin/why says, and the answers
+
+const NOTES = "[...document.querySelectorAll('#diagram .note')].map((note) => note.textContent)";
+
+// By hand: Access-Control-Allow-Origin is `*`, and the fetch has credentials.
+async function checkAdvice(browser, check, address) {
+  await browser.open(address + "#gallery/star-with-credentials");
+  await until(browser, "the advice", PLAYED);
+  const notes = await browser.value(NOTES);
+  const isSaid = (text) => notes.some((note) => note.startsWith(text));
+  check.compare("why, in the diagram", isSaid("why: Access-Control-Allow-Origin is `*`"), true);
+  check.compare("what to change, in the diagram", isSaid("change: "), true);
+  await browser.value("document.querySelector('#diagram [data-kind=request] .label').click()");
+  const details = await browser.value("document.getElementById('details').textContent");
+  check.compare("a click on a request: its answer",
+    details.includes("The answer:HTTP/1.1 200 Scripted\nAccess-Control-Allow-Origin: "), true);
+}
+
+async function checkPhones(browser, check, address) {
+  const pages = ["#gallery/put-json-cookie", "README.md", "gallery/README.md", "docs/rules/printed-text.md",
+    "docs/scenario.md"];
+  for (const page of pages) {
+    await checkPhone(browser, check, address + page);
+  }
+}
+
 // ---- the page as a screen reader is told it
 
 async function checkTree(browser, check, address) {
@@ -188,7 +215,7 @@ async function checkTree(browser, check, address) {
   const all = await browser.tree();
   const told = (role) => all.filter((one) => one.role === role).map(({ name }) => name);
   const marks = await browser.value(
-    "[...document.querySelectorAll('#diagram button')].map((one) => one.getAttribute('aria-label'))");
+    "[...document.querySelectorAll('#diagram .label')].map((one) => one.getAttribute('aria-label'))");
   const buttons = told("button");
   check.compare("the tree: each mark has its name", marks.filter((name) => !buttons.includes(name)), []);
   check.compare("the tree: marks", marks.length > 10, true);
@@ -242,5 +269,5 @@ async function checkElsewhere(browser, check, address) {
   server.close();
 }
 
-module.exports = { checkCompletion, checkEditing, checkElsewhere, checkFirst, checkLink, checkQuestions,
-  checkRefusedPlace, checkTree, until };
+module.exports = { checkAdvice, checkCompletion, checkEditing, checkElsewhere, checkFirst, checkLink, checkQuestions,
+  checkPhones, checkRefusedPlace, checkTree, until };

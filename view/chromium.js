@@ -132,6 +132,12 @@ class Chromium {
       .map((node) => ({ role: node.role.value, name: node.name ? node.name.value : "" }));
   }
 
+  // Shows pages as wide as the screen of a phone, or again as a window.
+  async narrow(width) {
+    await (width === null ? this.ask("Emulation.clearDeviceMetricsOverride")
+      : this.ask("Emulation.setDeviceMetricsOverride", { width, height: 844, deviceScaleFactor: 2, mobile: true }));
+  }
+
   // What is seen, as the bytes of a PNG.
   async picture() {
     return Buffer.from((await this.ask("Page.captureScreenshot", { format: "png" })).data, "base64");

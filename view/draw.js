@@ -4,81 +4,28 @@
 // the play becomes text alone: nothing here reads markup. `docs` is the address of docs/, for links to rules.
 
 const SVG = "http://www.w3.org/2000/svg";
-const LANE = 170;
-const ROOM_FOR_LABELS = 320;
-const ROW = 48;
-const MARK_ROW = 32;
-const MEANING = 26;
-const ARROW_AT = 36;
-const MARK_AT = 16;
 const LINE = 20;
-const LONGEST = 2000;
 const MOST_LINES = 400;
-
-const KINDS = { begin: "begin", end: "end", fetch: "script", load: "element", wait: "clock", call: "book",
-  request: "request", preflight: "preflight", redirect: "redirect", violation: "violation", result: "result",
-  refusal: "refused" };
-
-function middleOf(lane) {
-  return lane * LANE + LANE / 2;
-}
-
-function shortened(text) {
-  const more = text.length - LONGEST;
-  return more > 0 ? text.slice(0, LONGEST) + " \u2026 (" + more + " characters more)" : text;
-}
-
-// ---- the arrow or the mark of a step
-
-function shape(name, attributes) {
-  const element = document.createElementNS(SVG, name);
-  Object.entries(attributes).forEach(([key, value]) => element.setAttribute(key, String(value)));
-  return element;
-}
-
-function arrowParts(step) {
-  const [from, to] = [middleOf(step.from), middleOf(step.to)];
-  const back = from < to ? -1 : 1;
-  const line = shape("path", { class: "shaft", d: "M " + from + " " + ARROW_AT + " H " + (to + 2 * back) });
-  const head = "M " + to + " " + ARROW_AT + " l " + 9 * back + " -5 v 10 Z";
-  return [line, step.kind === "refusal" ? cross(to + 12 * back, ARROW_AT) : shape("path", { class: "head", d: head })];
-}
-
-function cross(at, height) {
-  const corners = [at - 6, at + 6].map((side) => "M " + side + " " + (height - 6));
-  return shape("path", { class: "cross", d: corners[0] + " l 12 12 " + corners[1] + " l -12 12" });
-}
-
-function markPart(step) {
-  const at = middleOf(step.from);
-  if (step.kind === "refusal") {
-    return cross(at, MARK_AT);
-  }
-  if (step.kind === "violation") {
-    return shape("path", { class: "head", d: "M " + at + " " + (MARK_AT - 8) + " l 8 14 h -16 Z" });
-  }
-  if (step.kind === "begin" || step.kind === "end") {
-    return shape("path", { class: "shaft", d: "M " + (at - 16) + " " + MARK_AT + " h 32" });
-  }
-  return shape("circle", { class: "head", cx: at, cy: MARK_AT, r: step.kind === "wait" ? 4 : 6 });
-}
-
-// A mark needs less room than an arrow, and a refusal has its meaning below.
-function heightOf(step) {
-  const own = step.from === step.to ? MARK_ROW : ROW;
-  return step.refusal === undefined ? own : own + MEANING;
-}
-
-function drawing(step, lanes) {
-  const height = heightOf(step);
-  const svg = shape("svg", { width: lanes.length * LANE, height, "aria-hidden": "true", focusable: "false" });
-  const lines = lanes.map((lane, index) => "M " + middleOf(index) + " 0 V " + height).join(" ");
-  const parts = step.from === step.to ? [markPart(step)] : arrowParts(step);
-  svg.append(shape("path", { class: "lane", d: lines }), ...parts);
-  return svg;
-}
+const NARROW = 600; // pixels: a page that is no wider has the narrow layout
+const COLORS = ["page", "ink", "soft", "rule", "book", "request", "preflight", "redirect", "violation", "result",
+  "refusal"];
 
 // ---- the rows of the diagram
+
+function shape({ name, ...attributes }) {
+  const made = document.createElementNS(SVG, name);
+  Object.entries(attributes).forEach(([key, value]) => made.setAttribute(key, String(value)));
+  return made;
+}
+
+function drawing(step, plan) {
+  const height = plan.heightOf(step);
+  const svg = shape({ name: "svg", width: plan.width - plan.layout.room, height, "aria-hidden": "true",
+    focusable: "false" });
+  const lanes = { name: "path", class: "lane", d: plan.lanePath(height) };
+  svg.append(...[lanes, ...plan.shapesOf(step)].map(shape));
+  return svg;
+}
 
 function ruleLink(refusal, docs) {
   const link = make("a", "rule", "the rule");
@@ -87,55 +34,103 @@ function ruleLink(refusal, docs) {
   return link;
 }
 
-function fillStep(row, step, lanes, docs) {
-  const left = Math.min(middleOf(step.from), middleOf(step.to)) + (step.from === step.to ? 18 : 8) + "px";
-  row.dataset.kind = step.kind;
-  row.classList.toggle("enforced", step.enforced === true);
+function labelButton(step, text, spoken) {
   const button = make("button", "label");
   button.type = "button";
-  button.append(make("b", "", KINDS[step.kind]), " " + shortened(step.label));
-  button.setAttribute("aria-label", shortened(spokenStep(step, lanes)));
-  button.title = shortened(step.label);
-  button.style.marginLeft = left;
-  button.style.maxWidth = "calc(100% - " + left + ")";
-  row.append(drawing(step, lanes), button);
-  if (step.refusal !== undefined) {
-    const meaning = make("p", "meaning", step.refusal.sentence + " ");
-    meaning.style.marginLeft = left;
-    meaning.append(ruleLink(step.refusal, docs));
-    row.append(meaning);
-  }
+  button.append(make("b", "", LOOKS[step.kind].word), " " + shortened(text));
+  button.setAttribute("aria-label", shortened(spoken));
+  button.title = shortened(text);
+  return button;
 }
 
-function fillLanes(lanes) {
+// What stands below the label, from a height on.
+function notesBelow(step, plan, docs) {
+  let top = plan.ownHeightOf(step);
+  return plan.notesOf(step).map(({ text, refusal, height }) => {
+    const note = make("p", refusal === undefined ? "note" : "note meaning", text + (refusal === undefined ? "" : " "));
+    note.style.top = top + "px";
+    note.style.maxHeight = height + "px";
+    top += height;
+    if (refusal !== undefined) {
+      note.append(ruleLink(refusal, docs));
+    }
+    return note;
+  });
+}
+
+// Folds or unfolds a fetch or a load.
+function foldButton(step, isFolded, toggle) {
+  const button = make("button", "fold", isFolded ? "+" : "\u2212");
+  button.type = "button";
+  button.setAttribute("aria-expanded", String(!isFolded));
+  button.setAttribute("aria-label", (isFolded ? "unfold " : "fold ") + step.label);
+  button.onclick = (event) => {
+    event.stopPropagation();
+    toggle();
+  };
+  return button;
+}
+
+function fillLanes(plan) {
   const list = document.querySelector("#diagram .lanes");
-  list.replaceChildren(...lanes.map((lane) => {
+  list.replaceChildren(...plan.lanes.map((lane) => {
     const item = make("li", lane.kind);
     item.append(make("b", "", lane.name), make("span", "", " " + lane.detail));
     item.title = lane.name + ", " + lane.detail;
     return item;
   }));
   const root = document.documentElement.style;
-  root.setProperty("--lane", LANE + "px");
-  root.setProperty("--lanes", lanes.length * LANE + "px");
-  root.setProperty("--room", ROOM_FOR_LABELS + "px");
+  root.setProperty("--lane", plan.layout.lane + "px");
+  root.setProperty("--lanes", plan.lanes.length * plan.layout.lane + "px");
+  root.setProperty("--room", plan.layout.room + "px");
 }
 
 // ---- the rows of the text and of the history
 
 function fillLine(row, number, text) {
-  const button = make("button", "line");
+  const button = make("button", number === null ? "line own" : "line");
   button.type = "button";
-  button.append(make("span", "number", String(number)), make("code", "", shortened(text)));
+  button.append(make("span", "number", number === null ? "" : String(number)), make("code", "", shortened(text)));
   row.append(button);
 }
 
-function widen(section, texts) {
+// How many letters of the text fit into a line of a narrow page, beside its number.
+function lettersOf(section) {
+  const probe = make("span", "probe", "0".repeat(100));
+  section.append(probe);
+  const letter = probe.getBoundingClientRect().width / 100;
+  probe.remove();
+  return Math.max(10, Math.floor((section.querySelector(".scroll").clientWidth - 24) / letter) - 6);
+}
+
+function widen(section, texts, isNarrow) {
   const longest = texts.reduce((most, text) => Math.max(most, Math.min(text.length, LONGEST + 40)), 0);
-  section.querySelector(".rows").style.minWidth = longest + 9 + "ch";
+  section.querySelector(".rows").style.minWidth = isNarrow ? "" : longest + 9 + "ch";
 }
 
 // ---- the chosen mark
+
+function lineOfPre(title, lines) {
+  return [make("p", "place", title), make("pre", "", lines.map(shortened).join("\n"))];
+}
+
+// One line that is said: its first word tells what it says. A rule is a page of docs/.
+function saidLine(text, docs) {
+  const [, word, rest] = /^([a-z ]{1,20}: )?([^]*)$/.exec(shortened(text));
+  const line = make("p", "said");
+  line.append(make("b", "", word || ""), ...(word === "rule: " ? ruleParts(rest, docs) : [rest]));
+  return line;
+}
+
+function ruleParts(text, docs) {
+  const page = /^docs\/([\w./#-]+)/.exec(text);
+  if (page === null) {
+    return [text];
+  }
+  const link = make("a", "", page[0]);
+  link.href = docs + page[1];
+  return [link, text.slice(page[0].length)];
+}
 
 function detailsOf(step, lanes, lines, docs) {
   const parts = [make("p", "spoken", shortened(spokenStep(step, lanes)))];
@@ -144,61 +139,175 @@ function detailsOf(step, lanes, lines, docs) {
     link.append(ruleLink(step.refusal, docs));
     parts.push(link);
   }
+  parts.push(...saidLines(step.said).map((line) => saidLine(line, docs)));
   const last = Math.min(step.last, step.line + MOST_LINES - 1);
-  const text = lines.slice(step.line - 1, last).map(shortened).join("\n");
   const place = step.line === step.last ? "Line " + step.line : "Lines " + step.line + " to " + step.last;
   const turn = step.turn === undefined ? "" : ", turn " + step.turn + " of the history";
-  return [...parts, make("p", "place", place + turn + ":"), make("pre", "", text)];
+  parts.push(...lineOfPre(place + turn + ":", lines.slice(step.line - 1, last)));
+  const answer = answerLines(step.said);
+  return answer.length === 0 ? parts : [...parts, ...lineOfPre("The answer:", answer)];
 }
 
 // ---- the page
 
 class Page {
-  constructor(text, docs) {
+  constructor(text, docs, choice) {
+    const { play, said } = readTold(text);
     this.docs = docs;
-    this.lines = text.split("\n");
+    this.choice = choice;
+    this.said = said;
+    this.play = play;
+    this.lines = play.split("\n");
     if (this.lines[this.lines.length - 1] === "") {
       this.lines.pop();
     }
-    this.text = this.rowsOf("text", this.lines, (index) => this.chooseLine(index + 1), (index) => index + 1);
+    this.written = rowsOfText(this.lines, said);
+    this.rowOfLine = new Map(this.written.map(({ number }, row) => [number, row]));
+    this.drawText();
   }
 
-  rowsOf(name, texts, choose, numberOf) {
+  // ---- the layout
+
+  isNarrow() {
+    return window.matchMedia("(max-width: " + NARROW + "px)").matches;
+  }
+
+  // Whether a page of another width needs another drawing.
+  resized() {
+    const width = this.isNarrow() ? document.documentElement.clientWidth : 0;
+    if (width !== this.observed) {
+      this.observed = width;
+      this.drawText();
+      if (this.steps !== undefined) {
+        this.drawHistory();
+        this.drawSteps();
+        if (this.chosen !== undefined) {
+          this.choose(this.chosen);
+        }
+      }
+    }
+  }
+
+  rowsOf(name, entries, choose) {
     const section = document.getElementById(name);
-    widen(section, texts);
-    return new Rows({ section, heights: texts.map(() => LINE), choose,
-      fill: (row, index) => fillLine(row, numberOf(index), texts[index]) });
+    const isNarrow = this.isNarrow();
+    const letters = isNarrow ? lettersOf(section) : 0;
+    widen(section, entries.map(({ text }) => text), isNarrow);
+    const broken = (text) => (isNarrow ? Math.max(1, Math.ceil(shortened(text).length / letters)) : 1);
+    return new Rows({ section, heights: entries.map(({ text }) => LINE * broken(text)), choose,
+      fill: (row, index) => fillLine(row, entries[index].number, entries[index].text) });
   }
 
-  draw(play) {
-    Object.assign(this, stepsOf(play));
-    fillLanes(this.lanes);
-    this.diagram = new Rows({ section: document.getElementById("diagram"),
-      heights: this.steps.map(heightOf),
-      fill: (row, index) => fillStep(row, this.steps[index], this.lanes, this.docs), choose: (index) => this.choose(index) });
-    this.firstEntry = play.history.length === 0 ? 0 : play.history[0].line;
-    const entries = play.history.map((entry) => this.lines[entry.line - 1]);
-    this.history = this.rowsOf("history", entries, (index) => this.chooseLine(this.firstEntry + index),
-      (index) => this.firstEntry + index);
+  drawText() {
+    stopRows(this.text);
+    this.observed = this.isNarrow() ? document.documentElement.clientWidth : 0;
+    this.text = this.rowsOf("text", this.written, (index) => this.chooseLine(this.written[index].behind));
+  }
+
+  drawHistory() {
+    stopRows(this.history);
+    const entries = this.entries.map(({ line }) => ({ number: line, text: this.lines[line - 1] }));
+    this.history = this.rowsOf("history", entries, (index) => this.chooseLine(entries[index].number));
+  }
+
+  // ---- the diagram
+
+  draw() {
+    const play = readPlay(this.play);
+    Object.assign(this, stepsOf(play, this.said));
+    this.entries = play.history;
+    this.drawSteps();
+    this.drawHistory();
     this.tell(play);
   }
 
+  planNow() {
+    const columns = this.choice.columns(this.lanes);
+    const count = columns.filter((column) => column >= 0).length;
+    const width = document.querySelector("#diagram .scroll").clientWidth;
+    return new Plan(this.isNarrow() ? narrowLayout(width, count) : WIDE, this.lanes, columns);
+  }
+
+  // Draws the steps that are chosen to be drawn.
+  drawSteps() {
+    stopRows(this.diagram);
+    this.shown = this.choice.shown(this.steps, this.lines);
+    this.rowOfStep = new Map(this.shown.map((step, row) => [step, row]));
+    const plan = this.planNow();
+    fillLanes(plan);
+    this.diagram = new Rows({ section: document.getElementById("diagram"),
+      heights: this.shown.map((index) => plan.heightOf(this.steps[index])),
+      fill: (row, index) => this.fillStep(row, this.shown[index], plan),
+      choose: (row) => this.choose(this.shown[row]) });
+    const hidden = this.steps.length - this.shown.length;
+    document.getElementById("drawn").textContent = hidden === 0 ? "" : this.shown.length + " of " + this.steps.length
+      + " marks are drawn.";
+    document.getElementById("fold").textContent = this.choice.isAllFolded(this.steps) ? "Unfold all" : "Fold all";
+  }
+
+  fillStep(row, index, plan) {
+    const step = this.steps[index];
+    const look = LOOKS[this.choice.kindOf(step)];
+    row.dataset.kind = step.kind;
+    row.style.setProperty("--kind", "var(--" + look.color + ")");
+    row.classList.toggle("enforced", step.enforced === true);
+    const text = this.choice.labelOf(step);
+    const spoken = spokenStep({ ...step, label: text }, this.lanes);
+    const head = make("div", "head-of-row");
+    head.style.marginLeft = plan.leftOf(step) + "px";
+    head.append(labelButton(step, text, spoken));
+    if (isStart(step)) {
+      head.append(foldButton(step, this.choice.isFolded(step), () => this.toggle(index)));
+    }
+    const notes = notesBelow(step, plan, this.docs);
+    notes.forEach((note) => {
+      note.style.left = plan.leftOf(step) + "px";
+    });
+    row.append(drawing(step, plan), head, ...notes);
+  }
+
+  toggle(index) {
+    this.choice.fold(this.steps[index], !this.choice.isFolded(this.steps[index]));
+    this.redraw();
+    const row = this.rowOfStep.get(index);
+    this.diagram.focus(row);
+    this.diagram.shown.get(row).querySelector(".fold").focus({ preventScroll: true });
+  }
+
+  // After another choice: what was chosen is chosen still, and what was in sight stays about there.
+  redraw() {
+    const { scrollTop } = this.diagram.scroll;
+    this.drawSteps();
+    this.diagram.scroll.scrollTop = scrollTop;
+    if (this.chosen !== undefined && this.rowOfStep.has(this.chosen)) {
+      this.diagram.activate(this.rowOfStep.get(this.chosen));
+      this.diagram.mark([this.rowOfStep.get(this.chosen)]);
+    }
+  }
+
+  // What is said of the whole play: the lines before it, and those of no mark.
   tell(play) {
     const count = (...kinds) => this.steps.filter((step) => kinds.includes(step.kind)).length;
     document.getElementById("summary").textContent = "Documents: " + play.documents.length + ". Requests: "
       + count("request", "preflight") + ", preflights among them: " + count("preflight") + ". Calls of the book: "
       + play.history.length + ". Refusals: " + count("refusal") + ".";
+    const said = saidLines(this.left).map((line) => saidLine(line, this.docs));
+    document.getElementById("said").replaceChildren(...said);
   }
+
+  // ---- what is chosen
 
   choose(index) {
     const step = this.steps[index];
-    const lines = Array.from({ length: step.last - step.line + 1 }, (nothing, more) => step.line - 1 + more);
-    const entry = step.entryLine === undefined ? [] : [step.entryLine - this.firstEntry];
-    this.diagram.mark([index]);
-    this.text.mark(step.entryLine === undefined ? lines : [...lines, step.entryLine - 1]);
-    this.history.mark(entry);
-    this.text.reveal(step.line - 1);
-    entry.forEach((row) => this.history.reveal(row));
+    this.chosen = index;
+    const lines = Array.from({ length: step.last - step.line + 1 }, (nothing, more) => step.line + more);
+    const entry = step.entryLine === undefined ? [] : [step.entryLine];
+    this.diagram.mark(this.rowOfStep.has(index) ? [this.rowOfStep.get(index)] : []);
+    this.text.mark([...lines, ...entry].map((line) => this.rowOfLine.get(line)));
+    this.text.reveal(this.rowOfLine.get(step.line));
+    const turns = entry.map((line) => line - this.entries[0].line);
+    this.history.mark(turns);
+    turns.forEach((row) => this.history.reveal(row));
     document.getElementById("details").replaceChildren(...detailsOf(step, this.lanes, this.lines, this.docs));
   }
 
@@ -206,27 +315,50 @@ class Page {
   chooseLine(number) {
     const index = this.byLine === undefined ? undefined : this.byLine[number];
     if (index !== undefined) {
-      this.diagram.activate(index);
-      this.diagram.reveal(index);
+      this.unfold(index);
+      if (this.rowOfStep.has(index)) {
+        this.diagram.activate(this.rowOfStep.get(index));
+        this.diagram.reveal(this.rowOfStep.get(index));
+      }
       this.choose(index);
     }
   }
 
-  // The next refusal after the active mark, or the one before it.
-  seekRefusal(way) {
-    let index = this.diagram.active + way;
-    while (index >= 0 && index < this.steps.length && this.steps[index].kind !== "refusal") {
-      index += way;
-    }
-    if (index >= 0 && index < this.steps.length) {
-      this.diagram.focus(index);
+  // A mark that is looked for shows also in a fetch that is folded.
+  unfold(index) {
+    if (!isStart(this.steps[index]) && this.choice.isFolded(this.steps[index])) {
+      this.choice.fold(this.steps[index], false);
+      this.redraw();
     }
   }
 
+  // The next refusal after the active mark, or the one before it. What the filter leaves out is passed over.
+  seekRefusal(way) {
+    const active = this.shown[this.diagram.active];
+    const groups = new Set(this.shown.map((index) => groupOf(this.steps[index])));
+    let index = active === undefined ? 0 : active + way;
+    while (index >= 0 && index < this.steps.length
+      && !(this.steps[index].kind === "refusal" && groups.has(groupOf(this.steps[index])))) {
+      index += way;
+    }
+    if (index >= 0 && index < this.steps.length) {
+      this.unfold(index);
+      this.diagram.focus(this.rowOfStep.get(index));
+    }
+  }
+
+  // ---- paper, and a picture
+
   print(all) {
-    const width = this.lanes === undefined ? 0 : this.lanes.length * LANE + ROOM_FOR_LABELS;
+    const width = this.lanes === undefined || this.isNarrow() ? 0 : this.planNow().width;
     document.getElementById("diagram").style.zoom = all && width > 1000 ? String(1000 / width) : "";
     this.parts().forEach((rows) => rows.print(all));
+  }
+
+  picture() {
+    const style = getComputedStyle(document.documentElement);
+    const colors = Object.fromEntries(COLORS.map((name) => [name, style.getPropertyValue("--" + name).trim()]));
+    return svgOf(this.shown.map((index) => this.steps[index]), this.lanes, this.choice, colors);
   }
 
   parts() {
@@ -237,19 +369,29 @@ class Page {
     const alert = make("p", "no-play", "This is no play: " + error.message + ".");
     alert.setAttribute("role", "alert");
     document.getElementById("summary").replaceChildren(alert);
-    this.text.mark([error.line - 1]);
-    this.text.reveal(Math.max(0, Math.min(error.line, this.lines.length) - 1));
+    const last = Math.min(error.line, this.lines.length);
+    this.text.mark([this.rowOfLine.get(error.line)].filter((row) => row !== undefined));
+    if (last > 0) {
+      this.text.reveal(this.rowOfLine.get(last));
+    }
   }
 }
 
-// What was drawn before goes.
+function stopRows(rows) {
+  if (rows !== undefined) {
+    rows.stop();
+  }
+}
+
+// What was drawn before goes; what is chosen to be drawn stays.
 let shownPage = null;
+const shownChoice = new Choice();
 
 function clearPage() {
   if (shownPage !== null) {
     shownPage.parts().forEach((rows) => rows.stop());
   }
-  document.querySelectorAll(".lanes, .rows, #summary").forEach((list) => list.replaceChildren());
+  document.querySelectorAll(".lanes, .rows, #summary, #said, #drawn").forEach((list) => list.replaceChildren());
   document.getElementById("details").replaceChildren(make("p", "", "None yet."));
 }
 
@@ -260,10 +402,10 @@ function isTyped(event) {
 
 function drawPlay(text, docs) {
   clearPage();
-  const page = new Page(text, docs);
+  const page = new Page(text, docs, shownChoice);
   shownPage = page;
   try {
-    page.draw(readPlay(text));
+    page.draw();
   } catch (error) {
     if (!(error instanceof PlayError)) {
       throw error;
@@ -272,10 +414,12 @@ function drawPlay(text, docs) {
   }
   window.onbeforeprint = () => page.print(true);
   window.onafterprint = () => page.print(false);
+  window.onresize = () => page.resized();
   document.onkeydown = (event) => {
     const way = { n: 1, p: -1 }[event.key];
     if (way !== undefined && page.diagram !== undefined && !isTyped(event)) {
       page.seekRefusal(way);
     }
   };
+  listenToControls(page);
 }

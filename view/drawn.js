@@ -46,7 +46,7 @@ const SHOWN = `document.querySelector("#details pre").textContent`;
 // examples/known-host.out, by hand: its marks are begin, fetch 0, the call of line 4, the refusal of line 5, and so on.
 async function checkKeys(browser, check, page) {
   await browser.open(page);
-  await browser.value("document.querySelector('#diagram button').focus()");
+  await browser.value("document.querySelector('#diagram .label').focus()");
   await browser.press("ArrowDown");
   await browser.press("ArrowDown");
   check.compare("ArrowDown twice", await browser.value(ACTIVE), 2);
@@ -74,7 +74,7 @@ async function checkClicks(browser, check) {
   await click('#diagram [data-index="4"] button');
   check.compare("the wait: the line that tells it", await browser.value(MARKED), [7]);
   check.compare("the marks, as they are said", await browser.value(
-    "[...document.querySelectorAll('#diagram button')].map((one) => one.getAttribute('aria-label'))"), SAID);
+    "[...document.querySelectorAll('#diagram .label')].map((one) => one.getAttribute('aria-label'))"), SAID);
 }
 
 const SAID = [
@@ -85,7 +85,7 @@ const SAID = [
   "time of document 0: at 10, 10 seconds later",
   "document 0 starts fetch 1",
   "document 0 calls the shared book: is a.test a known host? no",
-  "document 0 sends a request to http://a.test: GET /",
+  "document 0 sends a request: GET http://a.test/",
   "document 0 gets a result from http://a.test: basic 200 http://a.test/, 2 bytes",
   "document 0 ends: finished",
 ];
@@ -94,7 +94,7 @@ const SAID = [
 async function checkTree(browser, check) {
   const all = await browser.tree();
   const told = (role) => all.filter((one) => one.role === role).map(({ name }) => name);
-  check.compare("the tree: the marks", told("button").slice(0, SAID.length), SAID);
+  check.compare("the tree: the marks", told("button").filter((name) => SAID.includes(name)), SAID);
   check.compare("the tree: the parts", told("region"),
     ["Sequence", "Chosen mark", "Text of the play", "History of the shared book"]);
   check.compare("the tree: the rules", told("link").slice(0, 1), ["the rule of 5 SameOriginMode"]);
@@ -105,7 +105,7 @@ async function checkLong(browser, check, page, steps) {
   const rows = "document.querySelectorAll('.row').length";
   const soon = "new Promise((done) => requestAnimationFrame(() => requestAnimationFrame(() => done(";
   check.compare("the long play: few rows at first", await browser.value(rows) < 300, true);
-  await browser.value("document.querySelector('#diagram button').focus()");
+  await browser.value("document.querySelector('#diagram .label').focus()");
   await browser.press("End");
   check.compare("the long play: End", await browser.value(ACTIVE), steps - 1);
   const seen = await browser.value("document.querySelector('#diagram .scroll').scrollTop = 40000, " + soon
@@ -118,7 +118,7 @@ async function checkLong(browser, check, page, steps) {
 // The mark that has the focus is in sight, also in the last of 128 lanes.
 async function checkWide(browser, check, page) {
   await browser.open(page);
-  await browser.value("document.querySelector('#diagram button').focus()");
+  await browser.value("document.querySelector('#diagram .label').focus()");
   await browser.press("End");
   const inSight = await browser.value(`(() => {
     const [mark, view] = [document.activeElement, document.querySelector("#diagram .scroll")]
@@ -128,13 +128,79 @@ async function checkWide(browser, check, page) {
   check.compare("the wide play: the last mark is in sight", inSight, true);
 }
 
+// ---- the switches, by the told play of made.js
+
+const KINDS_DRAWN = "[...document.querySelectorAll('#diagram .row')].map((row) => row.dataset.kind)";
+const NOTES = "[...document.querySelectorAll('#diagram .note')].map((note) => note.textContent)";
+const DETAILS = "document.getElementById('details').textContent";
+
+// Waits for the filter, which waits for one who types.
+function type(browser, text) {
+  return browser.value(`new Promise((done) => {
+    const filter = document.getElementById("filter");
+    filter.value = ${JSON.stringify(text)};
+    filter.dispatchEvent(new Event("input"));
+    setTimeout(done, 400);
+  })`);
+}
+
+async function checkSwitches(browser, check, page) {
+  await browser.open(page);
+  const click = (selector) => browser.value("document.querySelector('" + selector + "').click()");
+  const advice = made.ADVICE.map((line) => line.slice(2));
+  check.compare("what is said below the refusal", (await browser.value(NOTES)).slice(1), [0, 1, 3].map((index) => advice[index]));
+  check.compare("what is said of the whole play", await browser.value("document.getElementById('said').textContent"),
+    made.WARNING.slice(2));
+  await click('#diagram [data-kind=request] .label');
+  check.compare("a request: its answer", (await browser.value(DETAILS)).endsWith(
+    "The answer:HTTP/1.1 200 Scripted\nContent-Type: text/plain\n(2 bytes follow)"), true);
+  await click('#diagram [data-kind=refusal] .label');
+  const said = await browser.value(DETAILS);
+  check.compare("a refusal: all that is said", advice.filter((line) => !said.includes(line)), []);
+  await click("#calls");
+  check.compare("without calls of the book", await browser.value(KINDS_DRAWN),
+    ["begin", "fetch", "refusal", "wait", "fetch", "request", "result", "end"]);
+  check.compare("without the book: the lanes", await browser.value("document.querySelectorAll('.lanes li').length"), 2);
+  await click("#diagram .fold");
+  check.compare("one fetch folded", await browser.value(KINDS_DRAWN),
+    ["begin", "fetch", "wait", "fetch", "request", "result", "end"]);
+  await click("#fold");
+  check.compare("all folded", await browser.value(KINDS_DRAWN), ["begin", "fetch", "fetch", "end"]);
+  await click('#text [data-index="14"] button');
+  check.compare("a line of a folded fetch unfolds it", await browser.value(KINDS_DRAWN),
+    ["begin", "fetch", "wait", "fetch", "request", "result", "end"]);
+  await type(browser, "sameorigin");
+  check.compare("the filter", await browser.value(KINDS_DRAWN), ["fetch"]);
+  check.compare("the filter: what is said of it", await browser.value("document.getElementById('drawn').textContent"),
+    "1 of 10 marks are drawn.");
+  await type(browser, "");
+  await click("#calls");
+  await checkPhone(browser, check, page);
+}
+
+// What is wider than the screen of a phone. The letters of an editor are cut by their field.
+const WIDER = `[...document.querySelectorAll("body *")].filter((one) => one.closest("svg *, #field") === null
+  && one.getBoundingClientRect().right > window.innerWidth + 0.5).map((one) => one.tagName + " " + one.className)`;
+
+async function checkPhone(browser, check, page) {
+  await browser.narrow(390);
+  await browser.open(page);
+  await browser.value("new Promise((done) => setTimeout(done, 300))");
+  check.compare(page + " on a phone: the width of the screen", await browser.value("window.innerWidth"), 390);
+  check.compare(page + " on a phone: what is wider", await browser.value(WIDER), []);
+  check.compare(page + " on a phone: the document", await browser.value(
+    "document.documentElement.scrollWidth <= window.innerWidth"), true);
+  await browser.narrow(null);
+}
+
 async function checkHostile(browser, check, page, text) {
   await browser.open(page);
   check.compare("hostile texts: nothing ran", await browser.value("window.ran === undefined"), true);
   const lines = await browser.value("[...document.querySelectorAll('#text code')].map((code) => code.textContent)");
   check.compare("hostile texts: the lines", lines, text.split("\n").slice(0, -1));
   check.compare("hostile texts: the elements", await browser.value(
-    "[document.scripts.length, document.images.length, document.querySelectorAll('style, iframe').length]"), [7, 0, 1]);
+    "[document.scripts.length, document.images.length, document.querySelectorAll('style, iframe').length]"),
+    [12, 0, 1]);
   check.compare("hostile texts: complaints", await browser.complaints(), []);
   await browser.value("document.body.append("
     + "Object.assign(document.createElement('script'), { text: 'window.ran = 1' }))");
@@ -164,6 +230,7 @@ async function checkOpening(browser, check, page, play) {
 }
 
 module.exports = {
-  checkClicks, checkDrawn, checkHostile, checkKeys, checkLong, checkNoPlay, checkOpening, checkTree, checkWide,
+  checkClicks, checkDrawn, checkHostile, checkKeys, checkLong, checkNoPlay, checkOpening, checkPhone, checkSwitches,
+  checkTree, checkWide,
   countedOf,
 };

@@ -181,6 +181,12 @@ class Firefox {
     return told.map((one) => ({ role: roleOf(one), name: one.name }));
   }
 
+  // Shows pages as wide as the screen of a phone, or again as a window.
+  async narrow(width) {
+    const style = width === null ? "" : "max-width: " + width + "px; min-width: 0";
+    await this.beside("gBrowser.selectedBrowser.style.cssText = '" + style + "';");
+  }
+
   async picture() {
     const { value } = await this.ask("WebDriver:TakeScreenshot", { full: false });
     return Buffer.from(value, "base64");

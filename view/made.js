@@ -57,6 +57,17 @@ function hostilePlay() {
   return lines.join("\n");
 }
 
+// The same play as bin/why tells it: a line before it, what is said of the refusal, and the answer to the request.
+function toldPlay(good) {
+  const lines = good.split("\n");
+  return [WARNING, ...lines.slice(0, 5), ...ADVICE, ...lines.slice(5, 14), ...ANSWER, ...lines.slice(14)].join("\n");
+}
+
+const WARNING = "# warning: line 3 of the scenario: nobody asks this server";
+const ADVICE = ["# why: the host is a known one (HSTS)", "# change: serve the page over https, too",
+  "# rule: docs/rules/fetch.md#main-fetch (same-origin/known-host)", "# note: a line of another kind"];
+const ANSWER = ["< HTTP/1.1 200 Scripted", "< Content-Type: text/plain", "< (2 bytes follow)"];
+
 // From examples/known-host.out, whose lines are numbered in the README: a name, a text that is no play, and the line at
 // which it is refused, counted by hand.
 function refusedTexts(good) {
@@ -99,4 +110,4 @@ function refusedTexts(good) {
   ];
 }
 
-module.exports = { hostilePlay, longPlay, refusedTexts, widePlay };
+module.exports = { ADVICE, ANSWER, WARNING, hostilePlay, longPlay, refusedTexts, toldPlay, widePlay };

@@ -4,6 +4,7 @@
 // from and to, its label, the lines of the text that it stands for, and its refusal where it is one. No DOM here.
 
 const tables = typeof module === "undefined" ? { networkErrors, requestFaults } : require("./errors.js");
+const telling = typeof module === "undefined" ? { statusOf } : require("./told.js");
 
 // ---- lanes: the documents, the book, and each server in the order in which it is first asked
 
@@ -129,7 +130,7 @@ function refererText(steps, event) {
 }
 
 function sendStep(steps, event) {
-  const label = event.method + " " + event.target;
+  const label = event.method + " " + event.origin + event.target;
   const arrow = { from: steps.lane, to: steps.laneOfServer.get(event.origin) };
   if (isPreflight(event)) {
     return { kind: "preflight", ...arrow, label: label + wishOf(event) };
@@ -186,12 +187,13 @@ class Steps {
     this.time = null;
     this.referer = null;
     this.isRedirected = false;
+    this.fetch = null;
     this.all = [];
   }
 
   add(step, line, last) {
     this.calls += step.kind === "call" ? 1 : 0;
-    this.all.push({ ...step, document: this.lane, line, last, calls: this.calls });
+    this.all.push({ ...step, document: this.lane, fetch: this.fetch, line, last, calls: this.calls, said: [] });
   }
 
   mark(kind, label, line) {
@@ -229,11 +231,30 @@ function addRedirect(steps, events, told, request) {
     label: "to " + (target === null ? "a URL that is refused" : target) }, request.line, events[told].last);
 }
 
+// What a fetch or a load asks for, as far as its lines tell it; null where they do not.
+function askedText(events) {
+  const request = events.find(isRequest);
+  if (request !== undefined) {
+    return request.method + " " + request.origin + request.target;
+  }
+  const told = events.find((event) => event.op === "covers" || event.kind === "violation");
+  return told === undefined ? null : [told.method, told.url].filter((part) => typeof part === "string").join(" ");
+}
+
+// All of a fetch in one mark: what was asked, and what came of it.
+function sumUp(steps, start, events) {
+  const last = steps.all[steps.all.length - 1];
+  start.outcome = last.kind;
+  start.folded = [start.label, askedText(events), last.label].filter((part) => part !== null).join(": ");
+}
+
 function addFetch(steps, { start, events }) {
+  steps.fetch = start.number;
   addTime(steps, events);
   steps.isRedirected = false;
   const kindOfLoad = start.kind === "load" ? ", " + start.destination : "";
   steps.mark(start.kind, start.kind + " " + start.number + kindOfLoad, start.line);
+  const first = steps.all[steps.all.length - 1];
   let server = steps.lane;
   let pending = null;
   events.forEach((event, index) => {
@@ -249,12 +270,14 @@ function addFetch(steps, { start, events }) {
       pending = redirect === null ? null : { ...redirect, request: event };
     }
   });
+  sumUp(steps, first, events);
 }
 
 function stepsOfDocument(document, laneOfServer, book) {
   const steps = new Steps(document, laneOfServer, book);
   steps.mark("begin", "under the key " + document.key, document.line);
   fetchesOf(document).forEach((fetch) => addFetch(steps, fetch));
+  steps.fetch = null;
   steps.mark("end", document.ending, document.last);
   return steps.all;
 }
@@ -295,14 +318,30 @@ function stepsByLine(steps) {
   return byLine;
 }
 
-function stepsOf(play) {
+// Gives each step what is said behind its lines, and a request its answer's status. What is said of no step is left.
+function attachSaid(steps, byLine, said) {
+  const left = [];
+  said.forEach((lines, line) => {
+    const step = steps[byLine[line]];
+    (step === undefined ? left : step.said).push(...lines);
+  });
+  steps.filter(({ kind }) => kind === "request" || kind === "preflight").forEach((step) => {
+    const status = telling.statusOf(step.said);
+    step.label += status === null ? "" : ", answered " + status;
+  });
+  return left;
+}
+
+// `said` is what readTold has found beside the play.
+function stepsOf(play, said = new Map()) {
   const lanes = lanesOf(play);
   const laneOfServer = new Map();
   lanes.forEach((lane, index) => lane.kind === "server" && laneOfServer.set(lane.name, index));
   const book = play.documents.length;
   const all = play.documents.map((document) => stepsOfDocument(document, laneOfServer, book));
   const steps = weave(all, play.history);
-  return { lanes, steps, byLine: stepsByLine(steps) };
+  const byLine = stepsByLine(steps);
+  return { lanes, steps, byLine, left: attachSaid(steps, byLine, said) };
 }
 
 // A step in words, for who hears the drawing.
@@ -314,8 +353,8 @@ function spokenStep(step, lanes) {
     end: own + " ends: ",
     wait: "time of " + own + ": ",
     call: own + " calls the shared book: ",
-    preflight: own + " sends a preflight to " + to + ": ",
-    request: own + " sends a request to " + to + ": ",
+    preflight: own + " sends a preflight: ",
+    request: own + " sends a request: ",
     redirect: from + " redirects " + own + " ",
     violation: own + " violates ",
     result: own + " gets a result from " + from + ": ",

@@ -1,0 +1,33 @@
+"""The text of a play with what bin/why says between its lines: the answers, why each fetch came to what it came, and
+what to change. Where nothing can be said the play stays as it is, with a line that says so."""
+from commands import asking, doubts, play_text, told
+from commands.scenario import Scenario
+
+LONGEST = 262144  # bytes of a scenario or of a play: of a longer one nothing is said
+
+
+def told_text(data, text):
+    """`data` has the bytes of the scenario, and `text` a character for each byte of its play."""
+    if len(data) > LONGEST or len(text) > LONGEST:
+        return unsaid(text, "the scenario or the play has more than %d bytes" % LONGEST)
+    try:
+        return "".join(line + "\n" for line in lines(data, text))
+    except Exception as error:  # a fault in what is said must not cost the play
+        return unsaid(text, "%s: %s" % (type(error).__name__, error))
+
+
+def unsaid(text, reason):
+    return "# note: nothing is said of this play: %s\n%s" % (" ".join(reason.split()), text)
+
+
+def lines(data, text):
+    """The warnings, and then each line of the play with what is said behind it."""
+    source, root = asking.read(data)
+    scenario = Scenario(root)
+    all_told = told.scripted(scenario, play_text.read(text))
+    for place, sentence in doubts.doubts(scenario, all_told.play, False):
+        yield "# warning: line %d of the scenario: %s" % (source.count("\n", 0, place) + 1, sentence)
+    behind = [own for _, own in all_told.pieces()]
+    for line, own in zip(all_told.play.lines, behind):
+        yield line
+        yield from (" ".join(said.splitlines()) for said in own if said[:1] in ("<", "#"))
