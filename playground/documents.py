@@ -18,7 +18,17 @@ pre { overflow-x: auto; padding: 8px; border: 1px solid #8886; font: 13px/1.4 ui
 code { font: 0.92em ui-monospace, monospace; }
 table { display: block; max-width: 100%; overflow-x: auto; border-collapse: collapse; }
 td, th { border: 1px solid #8886; padding: 3px 8px; text-align: left; vertical-align: top; }
-img { max-width: 100%; }"""
+img { max-width: 100%; }
+@media (max-width: 600px) {
+  pre { white-space: pre-wrap; }
+  pre, code, td { overflow-wrap: anywhere; }
+  table, tbody, tr, td { display: block; }
+  th { display: none; }
+  td { border-width: 0 1px; }
+  td:first-child { margin-top: 6px; border-top-width: 1px; }
+  td:last-child { border-bottom-width: 1px; }
+  td[data-head]::before { content: attr(data-head) ": "; opacity: 0.7; }
+}"""
 PAGE = """<!doctype html>
 <html lang="en">
 <head>
@@ -82,7 +92,7 @@ class Writer:
         if kind == "code":
             return "<pre><code>%s</code></pre>" % escape("\n".join(block[1]))
         if kind == "table":
-            rows = [self.row("th", block[1])] + [self.row("td", row) for row in block[2]]
+            rows = [self.heads(block[1])] + [self.row(row, block[1]) for row in block[2]]
             return "<table>\n%s\n</table>" % "\n".join(rows)
         if kind == "quote":
             return "<blockquote>%s</blockquote>" % "\n".join(map(self.block, block[1]))
@@ -95,8 +105,14 @@ class Writer:
             return self.spans(item[0][1])
         return "\n".join(map(self.block, item))
 
-    def row(self, name, cells):
-        return "<tr>%s</tr>" % "".join("<%s>%s</%s>" % (name, self.spans(cell), name) for cell in cells)
+    def heads(self, cells):
+        return "<tr>%s</tr>" % "".join("<th>%s</th>" % self.spans(cell) for cell in cells)
+
+    def row(self, cells, heads):
+        """On a narrow screen each cell stands by itself, behind the head of its column."""
+        names = [escape(markdown.plain(head)) for head in heads] + [""] * len(cells)
+        marks = [' data-head="%s"' % name if name else "" for name in names]
+        return "<tr>%s</tr>" % "".join("<td%s>%s</td>" % (mark, self.spans(cell)) for mark, cell in zip(marks, cells))
 
     def spans(self, spans):
         return "".join(map(self.span, spans))

@@ -132,6 +132,11 @@ class Chromium {
       .map((node) => ({ role: node.role.value, name: node.name ? node.name.value : "" }));
   }
 
+  // Has what a page saves written into a folder.
+  async saveInto(folder) {
+    await this.ask("Page.setDownloadBehavior", { behavior: "allow", downloadPath: folder });
+  }
+
   // Shows pages as wide as the screen of a phone, or again as a window.
   async narrow(width) {
     await (width === null ? this.ask("Emulation.clearDeviceMetricsOverride")

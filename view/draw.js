@@ -43,13 +43,35 @@ function labelButton(step, text, spoken) {
   return button;
 }
 
+// Measures how high a note is where the page breaks its lines.
+class Ruler {
+  constructor(place) {
+    this.place = place;
+    this.probe = make("p", "ruler");
+    this.known = new Map();
+  }
+
+  height(text, width) {
+    const name = width + " " + text;
+    if (!this.known.has(name)) {
+      this.place.append(this.probe);
+      this.probe.style.width = width + "px";
+      this.probe.textContent = text;
+      this.known.set(name, this.probe.offsetHeight);
+      this.probe.remove();
+    }
+    return this.known.get(name);
+  }
+}
+
 // What stands below the label, from a height on.
 function notesBelow(step, plan, docs) {
   let top = plan.ownHeightOf(step);
-  return plan.notesOf(step).map(({ text, refusal, height }) => {
-    const note = make("p", refusal === undefined ? "note" : "note meaning", text + (refusal === undefined ? "" : " "));
+  return plan.notesOf(step).map(({ text, link, refusal, height }) => {
+    const note = make("p", "note", text + link.slice(0, 1));
     note.style.top = top + "px";
-    note.style.maxHeight = height + "px";
+    note.style.left = plan.leftOf(step) + "px";
+    note.style.width = plan.roomOf(step) + "px";
     top += height;
     if (refusal !== undefined) {
       note.append(ruleLink(refusal, docs));
@@ -224,8 +246,10 @@ class Page {
   planNow() {
     const columns = this.choice.columns(this.lanes);
     const count = columns.filter((column) => column >= 0).length;
-    const width = document.querySelector("#diagram .scroll").clientWidth;
-    return new Plan(this.isNarrow() ? narrowLayout(width, count) : WIDE, this.lanes, columns);
+    const scroll = document.querySelector("#diagram .scroll");
+    const layout = this.isNarrow() ? narrowLayout(scroll.clientWidth, count) : WIDE;
+    const ruler = new Ruler(scroll);
+    return new Plan(layout, this.lanes, columns, (text, width) => ruler.height(text, width));
   }
 
   // Draws the steps that are chosen to be drawn.
@@ -259,11 +283,7 @@ class Page {
     if (isStart(step)) {
       head.append(foldButton(step, this.choice.isFolded(step), () => this.toggle(index)));
     }
-    const notes = notesBelow(step, plan, this.docs);
-    notes.forEach((note) => {
-      note.style.left = plan.leftOf(step) + "px";
-    });
-    row.append(drawing(step, plan), head, ...notes);
+    row.append(drawing(step, plan), head, ...notesBelow(step, plan, this.docs));
   }
 
   toggle(index) {

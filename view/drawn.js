@@ -3,6 +3,8 @@
 // What view/check asks a browser: that each play is drawn as it was counted, that keys and clicks do what they should,
 // that of a long play only what is in sight is drawn, and that hostile texts stay text.
 
+const fs = require("fs");
+const path = require("path");
 const made = require("./made.js");
 
 const COUNTS = `(() => {
@@ -148,7 +150,8 @@ async function checkSwitches(browser, check, page) {
   await browser.open(page);
   const click = (selector) => browser.value("document.querySelector('" + selector + "').click()");
   const advice = made.ADVICE.map((line) => line.slice(2));
-  check.compare("what is said below the refusal", (await browser.value(NOTES)).slice(1), [0, 1, 3].map((index) => advice[index]));
+  check.compare("what is said below the refusal", (await browser.value(NOTES)).slice(1),
+    [0, 1, 3].map((index) => advice[index]));
   check.compare("what is said of the whole play", await browser.value("document.getElementById('said').textContent"),
     made.WARNING.slice(2));
   await click('#diagram [data-kind=request] .label');
@@ -175,8 +178,27 @@ async function checkSwitches(browser, check, page) {
     "1 of 10 marks are drawn.");
   await type(browser, "");
   await click("#calls");
+  await checkSaved(browser, check, fs.mkdtempSync(path.join(path.dirname(page), "saved-")));
   await checkPhone(browser, check, page);
 }
+
+// The button saves the picture, as a file of its own.
+async function checkSaved(browser, check, folder) {
+  await browser.saveInto(folder);
+  await browser.value("document.getElementById('picture').click()");
+  const file = path.join(folder, "play.svg");
+  const isThere = () => fs.existsSync(file) && fs.statSync(file).size > 0;
+  for (let left = 100; left > 0 && !isThere(); left -= 1) {
+    await new Promise((resolve) => setTimeout(resolve, 100));
+  }
+  const saved = isThere() ? fs.readFileSync(file, "utf8") : "";
+  check.compare("the saved picture", [saved.startsWith("<svg "), saved.includes("5 SameOriginMode")], [true, true]);
+}
+
+// Below the marks and in the text, what does not fit into its row.
+const CUT = `[...document.querySelectorAll("#diagram .note, #text code, #history code")].filter((one) =>
+  one.getBoundingClientRect().bottom > one.closest(".row").getBoundingClientRect().bottom + 1)
+  .map((one) => one.textContent)`;
 
 // What is wider than the screen of a phone. The letters of an editor are cut by their field.
 const WIDER = `[...document.querySelectorAll("body *")].filter((one) => one.closest("svg *, #field") === null
@@ -188,6 +210,7 @@ async function checkPhone(browser, check, page) {
   await browser.value("new Promise((done) => setTimeout(done, 300))");
   check.compare(page + " on a phone: the width of the screen", await browser.value("window.innerWidth"), 390);
   check.compare(page + " on a phone: what is wider", await browser.value(WIDER), []);
+  check.compare(page + " on a phone: what is cut", await browser.value(CUT), []);
   check.compare(page + " on a phone: the document", await browser.value(
     "document.documentElement.scrollWidth <= window.innerWidth"), true);
   await browser.narrow(null);

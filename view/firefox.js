@@ -181,6 +181,14 @@ class Firefox {
     return told.map((one) => ({ role: roleOf(one), name: one.name }));
   }
 
+  // Has what a page saves written into a folder.
+  async saveInto(folder) {
+    await this.beside(`
+      Services.prefs.setIntPref("browser.download.folderList", 2);
+      Services.prefs.setStringPref("browser.download.dir", ${JSON.stringify(folder)});
+      Services.prefs.setBoolPref("browser.download.alwaysOpenPanel", false);`);
+  }
+
   // Shows pages as wide as the screen of a phone, or again as a window.
   async narrow(width) {
     const style = width === null ? "" : "max-width: " + width + "px; min-width: 0";

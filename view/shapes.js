@@ -11,7 +11,7 @@ const MARK_ROW = 32;
 const ARROW_AT = 36;
 const MARK_AT = 16;
 const NOTE = 18;
-const LETTER = 7; // pixels of a letter of a note, on average
+const BELOW_NOTE = 4;
 const LONGEST = 2000;
 
 // Of each kind of step the word that begins its label, the colour, and how its line is dashed.
@@ -40,12 +40,14 @@ function shortened(text) {
   return more > 0 ? text.slice(0, LONGEST) + " \u2026 (" + more + " characters more)" : text;
 }
 
-// A place of the drawing: its layout, and for each lane the column in which it stands.
+// A plan of the drawing: its layout, for each lane the column in which it stands, and how high a note is in a width. That
+// is one line where nothing breaks it.
 class Plan {
-  constructor(layout, lanes, columns) {
+  constructor(layout, lanes, columns, heightOfNote = () => NOTE) {
     this.layout = layout;
     this.lanes = lanes.filter((lane, index) => columns[index] >= 0);
     this.columns = columns;
+    this.heightOfNote = heightOfNote;
     this.width = this.lanes.length * layout.lane + layout.room;
   }
 
@@ -69,13 +71,19 @@ class Plan {
     return this.isMark(step) && !this.layout.isNarrow ? MARK_ROW : ROW;
   }
 
+  // How wide a note may be.
+  roomOf(step) {
+    return this.width - this.leftOf(step);
+  }
+
   // The texts below it: each with its height.
   notesOf(step) {
-    const letters = Math.max(10, Math.floor((this.width - this.leftOf(step) - 12) / LETTER));
-    const meaning = step.refusal === undefined ? [] : [{ text: step.refusal.sentence, refusal: step.refusal }];
-    const advice = advising.adviceOf(step.said).map((text) => ({ text: shortened(text) }));
-    const room = (note) => note.text.length + (note.refusal === undefined ? 0 : " the rule".length);
-    return [...meaning, ...advice].map((note) => ({ ...note, height: NOTE * Math.ceil(room(note) / letters) + 4 }));
+    const meaning = step.refusal === undefined ? []
+      : [{ text: step.refusal.sentence, link: " the rule", refusal: step.refusal }];
+    const advice = advising.adviceOf(step.said).map((text) => ({ text: shortened(text), link: "" }));
+    return [...meaning, ...advice].map((note) => {
+      return { ...note, height: this.heightOfNote(note.text + note.link, this.roomOf(step)) + BELOW_NOTE };
+    });
   }
 
   heightOf(step) {
