@@ -81,11 +81,11 @@ function notesBelow(step, plan, docs) {
 }
 
 // Folds or unfolds a fetch or a load.
-function foldButton(step, isFolded, toggle) {
+function foldButton(name, isFolded, toggle) {
   const button = make("button", "fold", isFolded ? "+" : "\u2212");
   button.type = "button";
   button.setAttribute("aria-expanded", String(!isFolded));
-  button.setAttribute("aria-label", (isFolded ? "unfold " : "fold ") + step.label);
+  button.setAttribute("aria-label", (isFolded ? "unfold " : "fold ") + name);
   button.onclick = (event) => {
     event.stopPropagation();
     toggle();
@@ -281,7 +281,8 @@ class Page {
     head.style.marginLeft = plan.leftOf(step) + "px";
     head.append(labelButton(step, text, spoken));
     if (isStart(step)) {
-      head.append(foldButton(step, this.choice.isFolded(step), () => this.toggle(index)));
+      const name = step.label + " of " + this.lanes[step.document].name;
+      head.append(foldButton(name, this.choice.isFolded(step), () => this.toggle(index)));
     }
     row.append(drawing(step, plan), head, ...notesBelow(step, plan, this.docs));
   }
