@@ -2,6 +2,8 @@
 
 // Asks the server for plays, one at a time: a play that another text has overtaken is given up.
 
+const longestAsked = typeof module === "undefined" ? LONGEST_SCENARIO : require("./link.js").LONGEST_SCENARIO;
+
 class Asking {
   constructor({ token, answered }) {
     this.token = token;
@@ -32,8 +34,8 @@ class Asking {
   async ask(text) {
     this.given = new AbortController();
     const body = new Blob([text]);
-    if (body.size > LONGEST_SCENARIO) {
-      return { failure: "a scenario has no more than " + LONGEST_SCENARIO + " bytes" };
+    if (body.size > longestAsked) {
+      return { failure: "a scenario has no more than " + longestAsked + " bytes" };
     }
     try {
       const response = await fetch("/play", { method: "POST", body, signal: this.given.signal,
@@ -43,4 +45,8 @@ class Asking {
       return { failure: "the playground does not answer; is bin/playground still running?" };
     }
   }
+}
+
+if (typeof module !== "undefined") {
+  module.exports = { Asking };
 }

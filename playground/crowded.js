@@ -1,11 +1,13 @@
 "use strict";
 
-// What playground/check asks a playground that many use at once: peers that are slow, and plays that take long.
+// What playground/check asks a playground that many use at once: peers that are slow, and plays that take long; and what a
+// page does that wants another play.
 
 const fs = require("fs");
 const net = require("net");
 const path = require("path");
 const { isAlive, playIn } = require("./asked.js");
+const { Asking } = require("./asking.js");
 
 const SOON = 2500; // milliseconds
 const SLOW_PEERS = 33; // one more than the server has places
@@ -89,4 +91,27 @@ async function checkTurns(playground, folder, compare) {
   compare("plays that nobody waits for are stopped", await areGone(log), true);
 }
 
-module.exports = { checkSlowPeers, checkTurns };
+// ---- one page
+
+// A server that never answers a long play, and any other at once.
+function slowFetch(url, { body, signal }) {
+  return new Promise((resolve, reject) => {
+    signal.addEventListener("abort", () => reject(new Error("given up")));
+    body.text().then((text) => text === "long" || resolve({ ok: true, json: async () => ({ text }) }));
+  });
+}
+
+// A page that wants another play gives the one up that it waits for.
+async function checkOvertaking(compare) {
+  const [kept, told] = [globalThis.fetch, []];
+  globalThis.fetch = slowFetch;
+  const asking = new Asking({ token: "", answered: (text, answer) => told.push([text, answer]) });
+  asking.want("long");
+  await pause(50);
+  await Promise.race([asking.want("small"), pause(SOON)]);
+  await pause(50);
+  globalThis.fetch = kept;
+  compare("a text that overtakes another", told, [["small", { text: "small" }]]);
+}
+
+module.exports = { checkOvertaking, checkSlowPeers, checkTurns };

@@ -51,5 +51,5 @@ async function textOfFragment(fragment, questions) {
 }
 
 if (typeof module !== "undefined") {
-  module.exports = { fragmentOf, textOfFragment };
+  module.exports = { LONGEST_SCENARIO, fragmentOf, textOfFragment };
 }
