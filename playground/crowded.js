@@ -1,7 +1,7 @@
 "use strict";
 
-// What playground/check asks a playground that many use at once: peers that are slow, and plays that take long; and what a
-// page does that wants another play.
+// What playground/check asks a playground that many use at once: peers that are slow, and plays that take long; and what
+// a page does that wants another play.
 
 const fs = require("fs");
 const net = require("net");

@@ -34,8 +34,8 @@ class Player:
         self.turns = Turns()
 
     def play(self, scenario, asker=None):
-        """What is shown of a play: its text, or the place where it was refused. `asker` is the connection of whoever waits
-        for it."""
+        """What is shown of a play: its text, or the place where it is refused. `asker` is the connection of whoever
+        waits for it."""
         try:
             with Turn(self.turns, 2 * self.seconds) as turn:
                 return shown(*self.in_turn(scenario, turn, asker))

@@ -1,8 +1,8 @@
 "use strict";
 
 // What view/check asks of the parts that need no browser: what is said between the lines of a play, which steps are drawn
-// by which switches, and the picture that is saved. By hand, from examples/known-host.out, whose steps are begin, fetch 0,
-// call, refusal, wait, fetch 1, call, request, result and end.
+// by which switches, and the saved picture. By hand, from examples/known-host.out, whose steps are begin, fetch 0, call,
+// refusal, wait, fetch 1, call, request, result and end.
 
 const { spawnSync } = require("child_process");
 const made = require("./made.js");
@@ -70,7 +70,7 @@ function countsOfPicture(text) {
   return ran.stdout.trim() + ran.stderr;
 }
 
-// Of each lane there are two texts, of each step its label, and below the refusal its meaning and three lines that are said.
+// Of each lane there are two texts, of each step its label, and below the refusal its meaning and three said lines.
 function checkPicture(compare, good) {
   compare("the picture", countsOfPicture(made.toldPlay(good)), 3 * 2 + 10 + 4 + " " + (2 + 10) + " 0");
   compare("the picture of hostile texts", countsOfPicture(made.hostilePlay()), 3 * 2 + 6 + " " + (2 + 6) + " 0");
