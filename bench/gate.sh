@@ -9,7 +9,9 @@
 #
 # It tells processor time (user and system) and wall time, and of these files how the processor time is shared among the
 # crates, and among their proofs, their tests and the edits that must fail, in seconds. The shares are read off the
-# running checks once a second, so they are a little less than the whole.
+# running checks once a second, so they are a little less than the whole. On a machine that others share a processor may
+# be half as fast for minutes: so a fixed piece of work is timed now and then beside the runs, and the ratio is told by it
+# too.
 set -eu
 source "$(dirname "${BASH_SOURCE[0]}")/common.bash"
 cd "$root"
@@ -55,6 +57,21 @@ checks() {
     done < <(ps -eo pid=,cputimes=,args= | grep -e '/bin/rattle .*--crate-name' | grep -v grep)
 }
 
+# A fixed piece of work, timed every ten seconds while one of the trees is measured.
+paced() {
+    local tree
+    TIMEFORMAT=%U
+    while sleep 10; do
+        tree=$(cat "$work/measured" 2>/dev/null) || continue
+        { time awk 'BEGIN { for (i = 0; i < 2000000; i++) s += i * i % 7 }'; } 2>>"$work/$tree.pace"
+    done
+}
+
+# The mean of those times, 0 where there is none.
+pace_of() {
+    awk '{ sum += $1 } END { print NR ? sum / NR : 0 }' "$work/$1.pace"
+}
+
 sampled() {
     while sleep 1; do
         [ ! -e "$work/counted" ] || checks >>"$work/samples"
@@ -88,8 +105,11 @@ told() {
         awk -v name="$1, $tree" '{ cpu += $1 + $2; wall += $4 - $3 }
             END { printf "%s: processor time %.1f minutes, wall time %.1f minutes\n", name, cpu / 60, wall / 60 }' "$work/$tree.times"
     done
-    [ -z "$against" ] || awk -v name="$1" 'FNR == 1 { at++ } { cpu[at] += $1 + $2; wall[at] += $4 - $3 }
-        END { printf "%s, ratio: processor time %.3f, wall time %.3f\n", name, cpu[2] / cpu[1], wall[2] / wall[1] }' \
+    [ -z "$against" ] || awk -v name="$1" -v those="$(pace_of those)" -v these="$(pace_of these)" '
+        FNR == 1 { at++ } { cpu[at] += $1 + $2; wall[at] += $4 - $3 }
+        END { printf "%s, ratio: processor time %.3f, wall time %.3f\n", name, cpu[2] / cpu[1], wall[2] / wall[1]
+            if (those > 0 && these > 0) printf "the fixed work took %.3f s and %.3f s; by it the ratio is %.3f, and of wall time %.3f\n", those, these,
+                cpu[2] / these / (cpu[1] / those), wall[2] / these / (wall[1] / those) }' \
         "$work/those.times" "$work/these.times"
 }
 
@@ -99,8 +119,10 @@ step() {
     for tree in $trees; do
         rm -f "$work/counted"
         [ "$tree" != these ] || touch "$work/counted"
+        echo "$tree" >"$work/measured"
         # shellcheck disable=SC2046 # (words)
         timed "$work/$tree" $([ "$1" = all ] || sed -n "${1}p" "$work/$tree.groups")
+        rm "$work/measured"
     done
 }
 
@@ -132,9 +154,12 @@ if [ -n "$against" ]; then
 fi
 trees=these
 [ -z "$against" ] || trees='those these'
+touch "$work/those.pace" "$work/these.pace"
 sampled &
 sampler=$!
-trap 'kill "$sampler"; rm -rf "$work"' EXIT
+paced &
+pacer=$!
+trap 'kill "$sampler" "$pacer"; rm -rf "$work"' EXIT
 
 # First `fetchplay`, without edits.
 for tree in $trees; do
