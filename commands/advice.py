@@ -25,6 +25,8 @@ UNMADE = {
     "scheme/other": "whether a server has it over https is not known",
     **dict.fromkeys(["redirect/long-location", "redirect/no-url", "redirect/scheme"],
                     "where the redirect was to lead is not known"),
+    **dict.fromkeys(["no-verdict/data", "no-verdict/blob", "no-verdict/websocket"],
+                    "this engine does not load it; what a policy is to say stands with the policy"),
     "redirect/loop": "where the chain was to end is not known",
     **dict.fromkeys(["request/long-url", "request/url-bytes", "request/no-url", "request/long-body",
                      "request/long-headers"],

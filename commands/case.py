@@ -218,7 +218,8 @@ class Case:
 
     @property
     def allows(self):
-        return "none" if self.allowed_origin is None else "`%s`" % self.allowed_origin
+        """What the answer allows, as a verb has it."""
+        return "has no " + ALLOW_ORIGIN if self.allowed_origin is None else "allows `%s`" % self.allowed_origin
 
     @property
     def allowed_credentials(self):
@@ -250,6 +251,21 @@ class Case:
         names = [name for name in self.asked_headers.split(",") if name] if is_asked else []
         return Needs(self.asked_url, self.origin, self.includes, self.method, names,
                      self.head if is_asked else None, None if is_asked else self.head)
+
+    @property
+    def is_page_in_small(self):
+        """Whether the page asks by a method in small letters that the server lists in capitals."""
+        return self.same_method == self.method.upper() != ""
+
+    @cached_property
+    def needs_told(self):
+        """The same, where the page asks as it should: by the method in capitals, and without a User-Agent of its own."""
+        needs = copy.copy(self.needs)
+        if self.result.number == 10 and self.is_page_in_small:
+            needs.method = self.same_method
+        if self.result.number == 11 and self.result.detail == "user-agent":
+            needs.names = [name for name in needs.names if name != "user-agent"]
+        return needs
 
     def is_alike(self):
         """Whether the allowed origin is the page's, written otherwise."""
@@ -395,6 +411,10 @@ class Case:
         return self.unquoted_words[0][0] if self.unquoted_words else ""
 
     @property
+    def unquoted_written(self):
+        return self.unquoted_words[0][1] if self.unquoted_words else ""
+
+    @property
     def policy_nonces(self):
         return csp.nonces(self.directive[1]) if self.kind in ("script", "style") else []
 
@@ -433,6 +453,10 @@ class Case:
                 "%s has `%s`" % (case.policy, case.directive_text) for case in map(self.of_violation, refusing))
         has_policies = any(enforced for enforced, _ in self.policies)
         return "and the page's policies let it" if has_policies else "and the page has no policy"
+
+    @property
+    def unloaded_change(self):
+        return "let each policy pass it, as follows" if self.violations else "nothing is to be changed"
 
     @property
     def verdict(self):

@@ -105,6 +105,7 @@ POLICIES = {
                                  servers=[{"origin": API, "rules": [rule(200, body="abc")]}]),
     "policy/nothing-allowed": policed("default-src 'none'"),
     "policy/ip-address": policed("connect-src https://203.0.113.7", fetch("https://203.0.113.7/x")),
+    "policy/colon": policed("connect-src https"),
     "policy/path-star": policed("connect-src https://api.test/*"),
     "policy/path-slash": policed("connect-src https://api.test/v1", fetch(API + "/v1/x")),
     "policy/port": policed("connect-src https://api.test", fetch("https://api.test:8443/x")),

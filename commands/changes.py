@@ -115,8 +115,8 @@ def origin_null(c):
 
 def method_in_another_case(c):
     """The page's, where it says in small letters what the server lists in capitals; else the server's."""
-    page = [[edits.request("method", c.same_method)]] if c.same_method == c.method.upper() else []
-    return page + cors(c)
+    page = [edits.request("method", c.same_method), *c.needs_told.all_edits()]
+    return ([page] if c.is_page_in_small else []) + cors(c)
 
 
 def in_cors(c):
@@ -131,7 +131,7 @@ def in_cors(c):
 def without_user_agent(c):
     """The browser sends its own; or the server lists it."""
     left = [list(pair) for pair in c.command.options["headers"] if pair[0].lower() != "user-agent"]
-    return [[edits.request("headers", left)]] + cors(c)
+    return [[edits.request("headers", left), *c.needs_told.all_edits()]] + cors(c)
 
 
 def mode_cors(c):
@@ -194,7 +194,7 @@ def secure_page(c):
 def policy_edit(c, words):
     """The violated policy's directive, or the one that is to stand beside default-src, with these words."""
     name = csp.written_for(c.directive[0], c.violated.directive)
-    return edits.policy(c.violated.policy, name, list(dict.fromkeys(words)))
+    return edits.policy(c.violated.policy, name, list(dict.fromkeys(words)), name != c.directive[0])
 
 
 def source_of(c):
@@ -239,7 +239,10 @@ def add_source(c):
 
 
 def put_quotes(c):
-    return [with_words(c, quoted(c))]
+    """And the policy's nonce at the element, where it has another one."""
+    words = quoted(c)
+    is_other = c.kind in ("script", "style") and csp.nonces(words) and not csp.passes(words, c.policy_asked)
+    return ([by_nonce(c, words)] if is_other else []) + [with_words(c, words)]
 
 
 def nonce_or_inserted(c):
@@ -259,7 +262,7 @@ def add_hashes(c):
 def rewrite(c):
     """The word that comes near, as it was meant. It stays beside that, unless it is no good for anything."""
     near, words = c.near_word, filled(c.directive[1])
-    if near.fault == "path-star":
+    if near.fault in ("path-star", "colon"):
         return [[policy_edit(c, [near.written if word == near.word else word for word in words])]]
     return [[policy_edit(c, [*words, near.written])]]
 
@@ -293,12 +296,6 @@ def portless(words):
 
 def without_port(c):
     return [[policy_edit(c, portless(c.directive[1]))]]
-
-
-def let_unloaded(c):
-    """Each enforced policy lets the URL."""
-    found = [add_source(case)[0] for case in map(c.of_violation, c.violations) if case.violated.enforced]
-    return [sum(found, [])] if found else []
 
 
 # ---- answers

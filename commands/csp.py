@@ -20,6 +20,7 @@ HOST = re.compile(r"(?:([A-Za-z][A-Za-z0-9+.-]*)://)?"
                   r"(\*|(?:\*\.)?[A-Za-z0-9-]+(?:\.[A-Za-z0-9-]+)*\.?)(?::([0-9]+|\*))?"
                   r"(/(?!/)(?:[A-Za-z0-9/\-._~!$&'()*+=:@]|%[0-9A-Fa-f]{2})*)?")
 PORTS = {"http": 80, "https": 443}
+SCHEMES = ("http", "https", "ws", "wss", "data", "blob")
 # What a scheme of a word matches besides itself.
 WIDER = {"http": ("https",), "ws": ("wss", "http", "https"), "wss": ("https",)}
 
@@ -169,13 +170,12 @@ def unquoted(words):
 
 def near(words, asked):
     """The first word that would match, were it written otherwise, by the likelier mistake; None where there is none."""
-    for fault, rewritten in (("path-star", of_star), ("path-slash", of_slash), ("port", of_port), ("scheme", of_scheme),
-                             ("host", of_host)):
+    for fault, rewritten in REWRITTEN:
         for word in words:
             parts = HOST.fullmatch(word)
-            for written in rewritten(parts.groups(), parts_of(asked.url)) if parts else []:
-                if matches(source(*written), asked):
-                    return Near(fault, word, source(*written))
+            written = rewritten(*parts.groups(), parts_of(asked.url)) if parts else None
+            if written is not None and matches(written, asked):
+                return Near(fault, word, written)
     return None
 
 
@@ -184,36 +184,40 @@ def source(scheme, host, port, path):
     return "".join([scheme + "://" if scheme else "", host, ":" + port if port else "", path or ""])
 
 
-def of_star(parts, url):
+def with_colon(scheme, host, port, path, url):
+    """The name of a scheme without its colon is a host."""
+    return host + ":" if host.lower() in SCHEMES and not (scheme or port or path) else None
+
+
+def without_star(scheme, host, port, path, url):
     """`/*` is no wildcard: a path that ends in a slash matches all below it."""
-    scheme, host, port, path = parts
-    return [(scheme, host, port, path.rstrip("*"))] if path and path.endswith("*") else []
+    return source(scheme, host, port, path.rstrip("*")) if path and path.endswith("*") else None
 
 
-def of_slash(parts, url):
-    """A path matches exactly, or what is below it where it ends in a slash."""
-    scheme, host, port, path = parts
+def with_other_slash(scheme, host, port, path, url):
+    """A path matches itself, or what is below it where it ends in a slash."""
     if not path or path == "/":
-        return []
-    return [(scheme, host, port, path[:-1] if path.endswith("/") else path + "/")]
+        return None
+    return source(scheme, host, port, path[:-1] if path.endswith("/") else path + "/")
 
 
-def of_port(parts, url):
-    scheme, host, port, path = parts
-    return [(scheme, host, str(url.port) if port_of(url) else None, path)]
+def with_port(scheme, host, port, path, url):
+    return source(scheme, host, str(url.port) if port_of(url) else None, path)
 
 
-def of_scheme(parts, url):
-    scheme, host, port, path = parts
-    return [(url.scheme, host, port, path)]
+def with_scheme(scheme, host, port, path, url):
+    return source(url.scheme, host, port, path)
 
 
-def of_host(parts, url):
+def with_host(scheme, host, port, path, url):
     """`*.` in front matches the names below a domain, and not the domain itself."""
-    scheme, host, port, path = parts
     name = (url.hostname or "").lower()
     bare = host.lower()[2:] if host.startswith("*.") else host.lower()
-    bare = bare[4:] if bare.startswith("www.") else bare
-    if name == bare:
-        return [(scheme, name, port, path)]
-    return [(scheme, "*." + bare, port, path)] if name.endswith("." + bare) and "." in bare else []
+    if name == re.sub(r"^www\.", "", bare):
+        return source(scheme, name, port, path)
+    return source(scheme, "*." + bare, port, path) if name.endswith("." + bare) and "." in bare else None
+
+
+# The likelier mistakes first.
+REWRITTEN = (("colon", with_colon), ("path-star", without_star), ("path-slash", with_other_slash), ("port", with_port),
+             ("scheme", with_scheme), ("host", with_host))

@@ -24,8 +24,10 @@ def without(method, url, name):
     return {"at": "answer", "method": method, "url": url, "remove": name}
 
 
-def policy(number, name, words):
-    return {"at": "page", "policy": number, "set": name, "value": " ".join(words)}
+def policy(number, name, words, is_new=False):
+    """A directive with these words, in the place of the one of its name, or beside default-src."""
+    beside = {"beside": "default-src"} if is_new else {}
+    return {"at": "page", "policy": number, "set": name, "value": " ".join(words), **beside}
 
 
 def page(name, value):
@@ -55,7 +57,7 @@ REQUEST = {
     "mode": "ask in mode %s",
     "credentials": "ask with `credentials` `%s`",
     "redirect": "ask with `redirect` `%s`",
-    "method": "ask by %s",
+    "method": "use the method %s",
     "crossorigin": "write `crossorigin=\"%s\"` at the element",
     "nonce": "give the element the nonce `%s`",
     "integrity": "write the integrity text `%s`",
@@ -91,10 +93,10 @@ def phrase(edits):
 
 def of_preflight(edits, is_first):
     status = [edit["value"] for edit in edits if edit["set"] == "status"]
-    lines = listed(line_of(edit) for edit in edits if edit["set"] != "status") if len(edits) > len(status) else ""
-    if status:
-        return "answer OPTIONS at %s with %d%s" % (edits[0]["url"], status[0], " and " + lines if lines else "")
-    return "send %s" % lines if is_first else "answer OPTIONS at %s with %s" % (edits[0]["url"], lines)
+    lines = [line_of(edit) for edit in edits if edit["set"] != "status"]
+    if is_first and not status:
+        return "send " + listed(lines)
+    return "answer OPTIONS at %s with %s" % (edits[0]["url"], listed(map(str, [*status, *lines])))
 
 
 def of_answer(edits, is_first):
@@ -108,9 +110,14 @@ def of_answer(edits, is_first):
 
 
 def of_page(edits, is_first):
-    said = ["policy %d say `%s %s`" % (edit["policy"], edit["set"], edit["value"]) for edit in edits if "policy" in edit]
+    said = [of_policy(edit) for edit in edits if "policy" in edit]
     moved = ["serve the page as %s" % edit["value"] for edit in edits if "policy" not in edit]
     return listed([*moved, *(["let " + listed(said)] if said else [])])
+
+
+def of_policy(edit):
+    said = "policy %d say `%s %s`" % (edit["policy"], edit["set"], edit["value"])
+    return said + " beside its `%s`" % edit["beside"] if "beside" in edit else said
 
 
 def of_request(edits, is_first):

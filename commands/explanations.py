@@ -49,7 +49,7 @@ CORS_CHECK = [
         "the answer to the preflight redirects ({c.status}) to {c.whereto}, and preflights are not followed, whatever its "
         "headers are", "Location", "{change}; look for https, a slash at the end, or a login", PREFLIGHT, changes.next_url_or_cors),
     Way("cors/origin-null", "7 12", lambda c: c.origin == "null",
-        "the request says `Origin: null`, since a redirect led it from another origin to this one, and the answer allows "
+        "the request says `Origin: null`, since a redirect led it from another origin to this one, and the answer "
         "{c.allows}", ALLOW_ORIGIN, "{change}; or redirect within one origin", "redirects.md#origin-null", changes.origin_null),
     Way("cors/preflight-login", "7", lambda c: c.allowed_origin is None and c.status in (401, 403, 407),
         "the answer to the preflight is {c.status}, without CORS headers: a preflight never carries a cookie or Authorization",
@@ -71,13 +71,13 @@ CORS_CHECK = [
         "the answer has no Access-Control-Allow-Origin", ALLOW_ORIGIN, "{change}", CORS, changes.cors),
     Way("cors/several", "7 12", lambda c: "," in c.allowed_origin,
         "the answer has several values of Access-Control-Allow-Origin, which are joined to one that is no origin",
-        ALLOW_ORIGIN, "{change}, once, with one value; look for a proxy that adds its own", CORS, changes.cors),
+        ALLOW_ORIGIN, "{change}; once, with one value: look for a proxy that adds its own", CORS, changes.cors),
     Way("cors/star-with-credentials", "7 12", lambda c: c.allowed_origin == "*" and c.includes,
         "Access-Control-Allow-Origin is `*`, which passes no request with credentials", ALLOW_ORIGIN,
         "{change}; and `Vary: Origin`, where several origins ask", CORS, changes.cors),
     Way("cors/written-otherwise", "7 12", lambda c: c.allowed_origin != c.origin and c.is_alike(),
         "`{c.allowed_origin}` is not `{c.origin}`, byte for byte, as the request says its origin", ALLOW_ORIGIN,
-        "{change}: scheme, ://, host, and the port where it is not the scheme's default; no slash, no blank, no quotes", CORS,
+        "{change}; an origin is scheme, ://, host, and the port where it is not the default: no slash, no blank, no quotes", CORS,
         changes.cors),
     Way("cors/other-origin", "7 12", lambda c: c.allowed_origin != c.origin,
         "the answer allows `{c.allowed_origin}`, and the request is of `{c.origin}`", ALLOW_ORIGIN,
@@ -87,7 +87,7 @@ CORS_CHECK = [
         "{change}", CORS, changes.cors_or_without_credentials),
     Way("cors/credentials-not-true", "7 12", lambda c: c.allowed_credentials != "true",
         "Access-Control-Allow-Credentials is `{c.allowed_credentials}`, and not `true`", ALLOW_CREDENTIALS,
-        "{change}, once, in lower case", CORS, changes.cors),
+        "{change}; `true` in lower case, and once", CORS, changes.cors),
 ]
 
 PREFLIGHTS = [
@@ -137,22 +137,21 @@ PREFLIGHTS = [
 # of URLs that a browser loads by itself, or by a WebSocket
 UNLOADED = [
     Way("no-verdict/data", "1", lambda c: c.is_unloaded and c.scheme == "data",
-        "no verdict: this engine loads no `data:` URL; a browser would, {c.policy_verdict}", "", "{change}", FETCH,
-        changes.let_unloaded),
+        "no verdict: this engine loads no `data:` URL; a browser would, {c.policy_verdict}", "", "{c.unloaded_change}", FETCH),
     Way("no-verdict/blob", "1", lambda c: c.is_unloaded and c.scheme == "blob",
         "no verdict: this engine loads no `blob:` URL; a browser would, where a script of the page's origin made it, "
-        "{c.policy_verdict}", "", "{change}", FETCH, changes.let_unloaded),
+        "{c.policy_verdict}", "", "{c.unloaded_change}", FETCH),
     Way("mixed/websocket", "1", lambda c: c.is_unloaded and c.is_mixed_socket,
         "the page is secure, and {c.url} is not: no browser opens this WebSocket", "", "{change}", MIXED, changes.secure_socket),
     Way("no-verdict/websocket", "1", lambda c: c.is_unloaded,
-        "no verdict: this engine opens no WebSocket; a browser would, by `new WebSocket`, {c.policy_verdict}", "", "{change}",
-        FETCH, changes.let_unloaded),
+        "no verdict: this engine opens no WebSocket; a browser would, by `new WebSocket`, {c.policy_verdict}", "", "{c.unloaded_change}",
+        FETCH),
 ]
 
 POLICIES = [
     Way("policy/quotes", "4", lambda c: c.unquoted_words != [],
-        "{c.policy} has `{c.directive_text}`, where `{c.unquoted_word}` lacks its quotes ', and is no keyword, nonce or "
-        "hash without them", "", "{change}", "csp.md#words-section-231-source-expression", changes.put_quotes),
+        "{c.policy} has `{c.directive_text}`, where `{c.unquoted_word}` lacks its quotes (`{c.unquoted_written}`), and so is no "
+        "keyword, nonce or hash", "", "{change}", "csp.md#words-section-231-source-expression", changes.put_quotes),
     Way("policy/before-upgrade", "4", lambda c: c.is_before_upgrade,
         "{c.policy} has `{c.directive_text}`, and is asked of {c.policy_url} as it is before any upgrade", "", "{change}",
         "csp.md#when-a-fetch-asks-them-section-41-integration-with-fetch", changes.before_upgrade),
@@ -162,7 +161,7 @@ POLICIES = [
         "nonce or hash alone", "", "{change}", POLICY, changes.nonce_or_inserted),
     Way("policy/nonce-differs", "4", lambda c: c.policy_nonces != [] and c.nonce != "",
         "{c.policy} has `{c.directive_text}`, and the element's nonce is `{c.nonce}`", "",
-        "{change}; both are to be made anew for each answer", POLICY, changes.nonce_or_source),
+        "{change}; a nonce is made anew for each answer", POLICY, changes.nonce_or_source),
     Way("policy/nonce-absent", "4", lambda c: c.policy_nonces != [],
         "{c.policy} has `{c.directive_text}`, and the element has no nonce", "", "{change}", POLICY, changes.nonce_or_source),
     Way("policy/hash-absent", "4", lambda c: c.kind == "script" and csp.hashes(c.directive[1]) != []
@@ -175,6 +174,9 @@ POLICIES = [
         "{c.policy} has `{c.directive_text}`, and the host of {c.policy_url} is an IP address, which no word with a host "
         "matches", "",
         "give the server a name; or {change}", WORDS, changes.add_source),
+    Way("policy/colon", "4", lambda c: c.near_fault == "colon",
+        "{c.policy} has `{c.directive_text}`, where `{c.near_text}` lacks its colon (`{c.near_written}`), and so is the name of a "
+        "host", "", "{change}", WORDS, changes.rewrite),
     Way("policy/path-star", "4", lambda c: c.near_fault == "path-star",
         "{c.policy} has `{c.near_text}`, whose path is no pattern: `*` stands for itself there, and a path that ends in a "
         "slash for all below it", "", "{change}", WORDS, changes.rewrite),
@@ -292,17 +294,17 @@ ANSWERS = [
         "set `body_limit`, in format 2; a browser has no such limit", "answers.md#the-body", changes.greater_limit),
     Way("integrity/unpadded", "22", lambda c: any(c.digest(c.strongest).rstrip("=") == value for value in
                                                  c.digests.get(c.strongest, [])),
-        "the {c.strongest} of the integrity text has lost its padding", "", "write it whole: {change}",
+        "the {c.strongest} of the integrity text has lost its padding", "", "{change}",
         "integrity.md", changes.integrity),
     Way("integrity/stale-strongest", "22", lambda c: any(c.digest(name) in values for name, values in c.digests.items()),
         "a weaker digest of the integrity text matches, and the {c.strongest} does not: the strongest alone counts", "",
-        "make the {c.strongest} anew: {change}", "integrity.md", changes.integrity),
+        "{change}", "integrity.md", changes.integrity),
     Way("integrity/mismatch", "22", always,
         "the body that came is not the one of the integrity text", "", "make the digest anew of the bytes as they are sent: {change}", BODY, changes.integrity),
     Way("no-verdict/coded", "23", always,
         "no verdict on the body: it is coded, and this engine decodes none (requests say `Accept-Encoding: identity`); a "
         "browser would, and CORS, policies and types let it", "Content-Encoding",
-        "{change}, where a request says so; a browser needs no change", BODY,
+        "for a verdict here send the body uncoded, and {change}; a browser needs no change", BODY,
         changes.uncoded),
 ]
 
@@ -458,7 +460,7 @@ class Explanation:
             condition, change = ASKED.get(way.name, (condition, change))
             rule = "../ask.md" if rule.startswith("../check-your-server.md") else rule
         found = [one for one in way.changes(c) if one]
-        is_asked = key_of(c.result) in PREFLIGHTED and c.about is None and way not in DIRECT
+        is_asked = key_of(c.result) in PREFLIGHTED and c.about is None and way not in DIRECT and c.origin != "null"
         self.way = way.name
         self.condition = condition.format(c=c)
         told = edits.sentence([shown(one) for one in found] if is_asked else found)
@@ -469,7 +471,7 @@ class Explanation:
         self.header = way.header.format(c=c)
         self.value = c.get(self.header) if self.header else None
         self.misspelt = misspelt(c, self.header) if self.header and self.value is None else None
-        self.needs = c.needs.lines() if is_asked and c.origin != "null" else []
+        self.needs = c.needs_told.lines() if is_asked else []
 
     def lines(self):
         """As it stands between the lines of a play."""
@@ -504,10 +506,8 @@ NOTHING = "nothing is to be changed"
 
 
 def shown(change):
-    """What is to be changed at the answer to a preflight; the other answers stand in the lines `in all`."""
-    if change[0]["at"] != "preflight":
-        return change
-    return [edit for edit in change if edit["at"] == "preflight"]
+    """What is not said of the answer to the request in the lines `in all`."""
+    return [edit for edit in change if edit["at"] != "answer"] or change
 
 
 def misspelt(c, wanted):
@@ -536,10 +536,9 @@ def explain(case):
 
 
 def explain_policies(case):
-    """Of each violated policy what to change in it, but of those that the explanation is about."""
+    """Of each violated policy what to change in it, but of the one that the explanation is about."""
     way = case.explanation.way if case.explanation else ""
     own = [case.violated] if way.startswith("policy/") else []
-    own += [one for one in case.violations if one.enforced and way.startswith("no-verdict/")]
     found = []
     for violation in case.violations:
         if violation not in own:
