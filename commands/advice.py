@@ -5,13 +5,14 @@ import copy
 from commands import answers, csp, edits
 from commands.play_text import is_preflight
 from commands.scenario import origin_of
+from commands.urls import secure
 
 # The order of a fetch's steps at one URL of its chain: faults of the request, what is looked at before anything is sent,
 # the preflight, the answer. A `p` stands before what fails at the connection of the preflight.
 STEPS = (["f%d" % number for number in range(1, 10)] + ["1", "2", "3", "4", "5", "6"] + ["p24", "p25", "p26"]
          + ["7", "8", "9", "10", "11"] + ["24", "25", "26"] + ["12", "13"] + ["14", "15", "16", "17", "18"])
 # What comes at the end of a chain; what a script sees of less than all comes before that it sees all.
-ENDS = ["19", "20", "21", "22 without a body", "23", "22", "no rule", "opaque", "broken body", "headers hidden", "read",
+ENDS = ["19", "20", "21", "22 opaque", "22 without a body", "23", "22", "no rule", "opaque", "broken body", "headers hidden", "read",
         "no verdict, the policy refuses it", "no verdict"]
 LAST = 1000  # the level of an end
 # Ways without a change that a table can name, and why.
@@ -46,8 +47,15 @@ def step_of(case):
     if result.is_refused():
         if number in ("24", "25", "26") and case.request is not None and is_preflight(case.request):
             return "p" + number
-        return "22 without a body" if number == "22" and (case.is_opaque or not case.has_body) else number
+        return step_of_integrity(case) if number == "22" else number
     return step_of_response(case)
+
+
+def step_of_integrity(case):
+    way = case.explanation.way
+    if way == "integrity/opaqueredirect":
+        return "14"
+    return {"integrity/opaque": "22 opaque", "integrity/no-body": "22 without a body"}.get(way, "22")
 
 
 def step_of_response(case):
@@ -72,7 +80,8 @@ def places(case, first=0):
     """The place of each URL of the chain, and of the one to which the last answer leads."""
     found = {hop.sent or hop.asked: first + number for number, hop in enumerate(case.hops)}
     if case.is_redirect and case.next_url:
-        found.setdefault(case.next_url, found.get(case.asked_url, first) + 1)
+        place = found.get(case.asked_url, first) + 1
+        found = {case.next_url: place, secure(case.next_url): place, **found}
     return found
 
 

@@ -79,6 +79,11 @@ class Case:
         return (header_of(self.request, "Origin") if self.request else None) or self.page_origin
 
     @property
+    def has_listener(self):
+        """Whether there is an upload listener, which asks for a preflight."""
+        return self.command.options.get("upload", False)
+
+    @property
     def includes(self):
         return self.command.includes()
 
@@ -236,13 +241,6 @@ class Case:
         rules = self.scenario.servers()[self.answer.server]["rules"]
         told = sorted({" ".join(filter(None, [rule.get("method", ""), rule.get("path", "any path")])) for rule in rules})
         return "its rules are for " + ", ".join(told[:8]) if told else "it has no rules"
-
-    @property
-    def near_path(self):
-        """The path of a rule for this method that differs by a slash at the end, the query or the case, or None."""
-        paths = [rule["path"] for rule in self.scenario.servers()[self.answer.server]["rules"]
-                 if "path" in rule and rule.get("method", self.method) == self.method]
-        return next((path for path in paths if plain_path(path) == plain_path(self.request.target)), None)
 
     @cached_property
     def needs(self):
@@ -625,11 +623,6 @@ def are_whole(data, at):
         if int(found.group(1), 16) == 0:
             return data.find(b"\r\n\r\n", found.end() - 2) >= 0
         at = found.end() + int(found.group(1), 16) + 2
-
-
-def plain_path(path):
-    """A path without the slash at its end, its query and the case of its letters."""
-    return path.partition("?")[0].rstrip("/").lower()
 
 
 def distinct(violations):

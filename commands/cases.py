@@ -148,6 +148,7 @@ ANSWERS = {
     "type/nosniff-absent": scenario(load("style"), [rule(200, [["X-Content-Type-Options", "nosniff"]])]),
     "type/nosniff": scenario(load("script"), [rule(200, [["X-Content-Type-Options", "nosniff"], ["Content-Type", "text/plain"]])]),
     "integrity/opaque": scenario(load("script", integrity="sha256-" + DIGEST["sha256"]), [rule(200, body="abc")]),
+    "integrity/opaqueredirect": scenario(fetch("/go", redirect="manual", integrity="sha256-" + DIGEST["sha256"]), JUMP, PAGE),
     "integrity/no-body": answered(OK, status=204, integrity="sha256-" + DIGEST["sha256"]),
     "integrity/incomplete": answered(OK, ["Content-Length", "9"], body="abc", integrity="sha256-" + DIGEST["sha256"]),
     "integrity/toobig": scenario(fetch(integrity="sha256-" + DIGEST["sha256"]), [rule(200, [OK], "abc")], body_limit=2),

@@ -87,12 +87,11 @@ def next_url_or_cors(c):
 
 
 def no_rule(c):
-    """A rule for the request, or the path of one that is there."""
-    near = [] if c.near_path is None else [ask_for(c.request.origin + c.near_path, c)]
+    """A rule for the request, with what CORS wants of it."""
     if c.result.number not in (7, 12) or c.result.is_fault:
-        return [[here(c, "status", 200)]] + near
+        return [[here(c, "status", 200)]]
     found = [] if is_preflight(c.request) else [here(c, "status", 200)]
-    return [found + cors(c)[0]] + near
+    return [found + cors(c)[0]]
 
 
 def here(c, name, value):
@@ -107,7 +106,7 @@ def origin_null(c):
     asked = next((answer.head for request, answer in c.exchanges
                   if is_preflight(request) and c.whole(request) == c.asked_url), None)
     own = None if is_preflight(c.request) else c.head
-    needs = Needs(c.asked_url, c.page_origin, c.includes, c.method, names, asked, own)
+    needs = Needs(c.asked_url, c.page_origin, c.includes, c.method, names, asked, own, c.has_listener)
     itself = ask_for(c.asked_url, c) + ([] if origin_of(c.asked_url) == c.page_origin else needs.all_edits())
     star = [{**edit, "value": "*"} if edit["value"] == "null" else edit for edit in cors(c)[0]]
     return [itself] + ([] if c.includes else [star])
@@ -123,7 +122,7 @@ def in_cors(c):
     """The page asks in mode cors, or with `crossorigin`, for the last URL; and the server allows it."""
     names = guards.unsafe_names(guards.kept(c.command.headers, "cors"))
     includes = c.includes and not c.command.is_load
-    needs = Needs(c.asked_url, c.page_origin, includes, c.method, names, None, c.head)
+    needs = Needs(c.asked_url, c.page_origin, includes, c.method, names, None, c.head, c.has_listener)
     mode = edits.request("crossorigin", "anonymous") if c.command.is_load else edits.request("mode", "cors")
     return [(ask_for(c.asked_url, c) if len(c.chain) > 1 else []) + [mode] + needs.all_edits()]
 
@@ -329,9 +328,9 @@ def integrity(c):
 
 
 def body_or_no_integrity(c):
-    own = [edits.request("method", "GET")] if c.request.method == "HEAD" else []
-    own += [] if c.status not in (101, 103, 204, 205, 304) else [here(c, "status", 200)]
-    return [own, [edits.request("integrity", "")]]
+    """An answer that has a body; one to HEAD never has."""
+    body = [] if c.request.method == "HEAD" else [[here(c, "status", 200)]]
+    return body + [[edits.request("integrity", "")]]
 
 
 def right_length(c):
@@ -391,10 +390,8 @@ def post_or_no_body(c):
 
 
 def mended_header(c):
-    """The list of headers with this one mended, or without it where nothing is left."""
-    index, headers = int(c.result.detail or 0), [list(pair) for pair in c.command.options["headers"]]
-    name, value = headers[index]
-    headers[index] = ["".join(TOKEN.findall(name)), re.sub("[\0\r\n]+", " ", value)]
+    """The list of headers, each name and value mended, without those of which nothing is left."""
+    headers = [["".join(TOKEN.findall(name)), re.sub("[\0\r\n]+", " ", value)] for name, value in c.command.options["headers"]]
     return [[edits.request("headers", [pair for pair in headers if pair[0]])]]
 
 

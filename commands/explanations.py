@@ -38,7 +38,7 @@ CORS_CHECK = [
     Way("cors/no-rule", "7 12", lambda c: c.has_no_rule,
         "the scenario's server {c.request.origin} has no rule for {c.request.method} {c.request.target}, so the answer is "
         "an empty 404 without CORS headers; {c.nearest_rule}", "",
-        "add a rule for this request: {change}", CORS, changes.no_rule),
+        "add a rule for this request: {change}; or ask for a path that has one", CORS, changes.no_rule),
     Way("cors/tls-port-asked-in-plain", "7 12",
         lambda c: (c.is_net and not c.is_direct and c.status == 400 and c.request.origin.startswith("https:")
                    and c.allowed_origin is None),
@@ -284,6 +284,9 @@ ANSWERS = [
     Way("integrity/opaque", "22", lambda c: c.is_opaque,
         "the response is opaque, since it is of another origin and the mode is no-cors: there is no body to match", "",
         "{change}", BODY, changes.in_cors),
+    Way("integrity/opaqueredirect", "22", lambda c: c.is_redirect and c.command.options["redirect"] == "manual",
+        "the answer redirects ({c.status}), and the redirect mode is manual: there is no body to match", "Location", "{change}", BODY,
+        changes.follow),
     Way("integrity/no-body", "22", lambda c: not c.has_body,
         "an answer with the status {c.status} to {c.request.method} has no body that could match", "",
         "{change}", BODY, changes.body_or_no_integrity),
@@ -400,7 +403,8 @@ REQUESTS = [
 SEEN = [
     Way("seen/no-rule", "s", lambda c: c.has_no_rule and c.result.type in ("basic", "loaded", "opaque"),
         "the scenario's server {c.request.origin} has no rule for {c.request.method} {c.request.target}, so the answer is "
-        "an empty 404; {c.nearest_rule}", "", "add a rule for this request: {change}", "../scenario.md#servers", changes.no_rule),
+        "an empty 404; {c.nearest_rule}", "", "add a rule for this request: {change}; or ask for a path that has one",
+        "../scenario.md#servers", changes.no_rule),
     Way("seen/opaque", "s", lambda c: c.result.type == "opaque",
         "the mode is no-cors and the answer of another origin, so the script sees nothing of it: not its status {c.status}, "
         "no header, no body", "", "{change}", "responses.md#types", changes.in_cors),
