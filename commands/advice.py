@@ -5,14 +5,14 @@ import copy
 from commands import answers, csp, edits
 from commands.play_text import is_preflight
 from commands.scenario import origin_of
-from commands.urls import secure
+from commands.urls import secure, without_user_info
 
 # The order of a fetch's steps at one URL of its chain: faults of the request, what is looked at before anything is sent,
 # the preflight, the answer. A `p` stands before what fails at the connection of the preflight.
 STEPS = (["f%d" % number for number in range(1, 10)] + ["1", "2", "3", "4", "5", "6"] + ["p24", "p25", "p26"]
          + ["7", "8", "9", "10", "11"] + ["24", "25", "26"] + ["12", "13"] + ["14", "15", "16", "17", "18"])
 # What comes at the end of a chain; what a script sees of less than all comes before that it sees all.
-ENDS = ["19", "20", "21", "22 opaque", "22 without a body", "23", "22", "no rule", "opaque", "broken body", "headers hidden", "read",
+ENDS = ["19", "20", "21", "22 opaque", "22 without a body", "23", "22 incomplete", "22", "no rule", "opaque", "broken body", "headers hidden", "read",
         "no verdict, the policy refuses it", "no verdict"]
 LAST = 1000  # the level of an end
 # Ways without a change that a table can name, and why.
@@ -55,7 +55,8 @@ def step_of_integrity(case):
     way = case.explanation.way
     if way == "integrity/opaqueredirect":
         return "14"
-    return {"integrity/opaque": "22 opaque", "integrity/no-body": "22 without a body"}.get(way, "22")
+    names = {"opaque": "22 opaque", "no-body": "22 without a body", "incomplete": "22 incomplete", "toobig": "22 incomplete"}
+    return names.get(way.partition("/")[2], "22")
 
 
 def step_of_response(case):
@@ -81,7 +82,8 @@ def places(case, first=0):
     found = {hop.sent or hop.asked: first + number for number, hop in enumerate(case.hops)}
     if case.is_redirect and case.next_url:
         place = found.get(case.asked_url, first) + 1
-        found = {case.next_url: place, secure(case.next_url): place, **found}
+        url = without_user_info(case.next_url)
+        found = {url: place, secure(url): place, case.next_url: place, **found}
     return found
 
 

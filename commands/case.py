@@ -8,7 +8,7 @@ from collections import namedtuple
 from functools import cached_property
 from urllib.parse import urlsplit
 
-from commands import csp, guards
+from commands import answers, csp
 from commands.needs import (ALLOW_CREDENTIALS, ALLOW_HEADERS, ALLOW_METHODS, ALLOW_ORIGIN, EXPOSE_HEADERS, TOKEN, Needs,
                             items_of)
 from commands.play_text import header_of, is_preflight
@@ -248,7 +248,17 @@ class Case:
         is_asked = is_preflight(self.request)
         names = [name for name in self.asked_headers.split(",") if name] if is_asked else []
         return Needs(self.asked_url, self.origin, self.includes, self.method, names,
-                     self.head if is_asked else None, None if is_asked else self.head)
+                     self.head if is_asked else None, None if is_asked else self.head, is_asked)
+
+    @property
+    def preflight_head(self):
+        """The head that answered a preflight at this URL, or would by the scenario's servers; None where that is not known."""
+        heads = [answer.head for request, answer in self.exchanges if is_preflight(request) and self.whole(request) == self.asked_url]
+        if heads or self.is_net:
+            return heads[-1] if heads else None
+        request = copy.copy(self.request)
+        request.method = "OPTIONS"
+        return answers.scripted(self.scenario, request).head
 
     @property
     def is_page_in_small(self):

@@ -9,7 +9,7 @@ from commands.case import Violation
 from commands.needs import EXPOSE_HEADERS, TOKEN, Needs, merged
 from commands.play_text import is_preflight
 from commands.scenario import joined, origin_of
-from commands.urls import host_of, is_trustworthy, scheme_of, secure
+from commands.urls import host_of, is_trustworthy, scheme_of, secure, without_user_info
 
 
 def nothing(c):
@@ -103,10 +103,8 @@ def here(c, name, value):
 def origin_null(c):
     """The page asks for the last URL itself, and is allowed there; or `*`, where no credentials go along."""
     names = guards.unsafe_names(guards.kept(c.command.headers, "cors"))
-    asked = next((answer.head for request, answer in c.exchanges
-                  if is_preflight(request) and c.whole(request) == c.asked_url), None)
     own = None if is_preflight(c.request) else c.head
-    needs = Needs(c.asked_url, c.page_origin, c.includes, c.method, names, asked, own, c.has_listener)
+    needs = Needs(c.asked_url, c.page_origin, c.includes, c.method, names, c.preflight_head, own, c.has_listener)
     itself = ask_for(c.asked_url, c) + ([] if origin_of(c.asked_url) == c.page_origin else needs.all_edits())
     star = [{**edit, "value": "*"} if edit["value"] == "null" else edit for edit in cors(c)[0]]
     return [itself] + ([] if c.includes else [star])
@@ -122,7 +120,7 @@ def in_cors(c):
     """The page asks in mode cors, or with `crossorigin`, for the last URL; and the server allows it."""
     names = guards.unsafe_names(guards.kept(c.command.headers, "cors"))
     includes = c.includes and not c.command.is_load
-    needs = Needs(c.asked_url, c.page_origin, includes, c.method, names, None, c.head, c.has_listener)
+    needs = Needs(c.asked_url, c.page_origin, includes, c.method, names, c.preflight_head, c.head, c.has_listener)
     mode = edits.request("crossorigin", "anonymous") if c.command.is_load else edits.request("mode", "cors")
     return [(ask_for(c.asked_url, c) if len(c.chain) > 1 else []) + [mode] + needs.all_edits()]
 
@@ -165,7 +163,7 @@ def follow_or_cors(c):
 def next_url(c):
     """The page asks for the URL to which the answer redirects, where that is another one."""
     is_other = origin_of(c.next_url) and c.next_url not in [c.asked_url, *(hop.asked for hop in c.hops)]
-    return [ask_for(c.next_url, c)] if is_other else []
+    return [ask_for(without_user_info(c.next_url), c)] if is_other else []
 
 
 def location(value):
@@ -178,8 +176,7 @@ def first_location(c):
 
 
 def location_without_credentials(c):
-    parts = urlsplit(c.next_url)
-    return parts._replace(netloc=parts.netloc.rpartition("@")[2]).geturl()
+    return without_user_info(c.next_url)
 
 
 def secure_page(c):
@@ -372,9 +369,8 @@ def without_user(c):
     parts = urlsplit(joined(c.command.url, c.document["url"]))
     user = "%s:%s" % (unquote(parts.username or ""), unquote(parts.password or ""))
     secret = "Basic " + base64.b64encode(user.encode("utf-8")).decode("ascii")
-    url = parts._replace(netloc=parts.netloc.rpartition("@")[2]).geturl()
     headers = [*map(list, c.command.options["headers"]), ["Authorization", secret]]
-    return [[edits.request("url", url), edits.request("headers", headers)]]
+    return [[edits.request("url", without_user_info(parts.geturl())), edits.request("headers", headers)]]
 
 
 def token_method(c):

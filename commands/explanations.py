@@ -45,12 +45,12 @@ CORS_CHECK = [
         "the answer is 400, as a TLS port gives it when it is asked in plain; `net` speaks no TLS, and {c.route} was asked "
         "in plain", "", "let the route lead to the server's plain port, or to a side process that ends TLS",
         "../check-your-server.md#what-the-scenario-says"),
-    Way("cors/preflight-redirect", "7", lambda c: c.is_redirect,
-        "the answer to the preflight redirects ({c.status}) to {c.whereto}, and preflights are not followed, whatever its "
-        "headers are", "Location", "{change}; look for https, a slash at the end, or a login", PREFLIGHT, changes.next_url_or_cors),
     Way("cors/origin-null", "7 12", lambda c: c.origin == "null",
         "the request says `Origin: null`, since a redirect led it from another origin to this one, and the answer "
         "{c.allows}", ALLOW_ORIGIN, "{change}; or redirect within one origin", "redirects.md#origin-null", changes.origin_null),
+    Way("cors/preflight-redirect", "7", lambda c: c.is_redirect,
+        "the answer to the preflight redirects ({c.status}) to {c.whereto}, and preflights are not followed, whatever its "
+        "headers are", "Location", "{change}; look for https, a slash at the end, or a login", PREFLIGHT, changes.next_url_or_cors),
     Way("cors/preflight-login", "7", lambda c: c.allowed_origin is None and c.status in (401, 403, 407),
         "the answer to the preflight is {c.status}, without CORS headers: a preflight never carries a cookie or Authorization",
         ALLOW_ORIGIN, "{change}, before the login is asked for", PREFLIGHT, changes.cors),

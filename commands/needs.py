@@ -31,9 +31,10 @@ def merged(value, more, as_names, known=None):
 
 class Needs:
     """Of a request to a URL: `names` are those of its headers that ask for a preflight. `asked` and `own` are the heads
-    that answered the preflight and the request, where they came, and `upload` whether there is an upload listener."""
+    that answered the preflight and the request, where they came, and `always` says that there is a preflight
+    whatever the method and the names are."""
 
-    def __init__(self, url, origin, includes, method, names, asked=None, own=None, upload=False):
+    def __init__(self, url, origin, includes, method, names, asked=None, own=None, always=False):
         self.url = url
         self.origin = origin
         self.includes = includes
@@ -41,10 +42,10 @@ class Needs:
         self.names = names
         self.asked = asked
         self.own = own
-        self.upload = upload
+        self.always = always
 
     def is_preflighted(self):
-        return self.asked is not None or self.upload or bool(self.names) or self.method not in guards.SAFELISTED_METHODS
+        return self.always or bool(self.names) or self.method not in guards.SAFELISTED_METHODS
 
     def of_check(self, head):
         """What the CORS check wants of an answer. An origin that passes stays."""

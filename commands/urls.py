@@ -38,3 +38,9 @@ def secure(url):
         return url
     host = parts.netloc[:-4] if parts.netloc.endswith(":443") else parts.netloc
     return parts._replace(scheme="wss" if parts.scheme in ("ws", "wss") else "https", netloc=host).geturl()
+
+
+def without_user_info(url):
+    """The URL without a user name and a password."""
+    parts = urlsplit(url)
+    return parts._replace(netloc=parts.netloc.rpartition("@")[2]).geturl()
