@@ -162,8 +162,9 @@ def follow_or_cors(c):
 
 def next_url(c):
     """The page asks for the URL to which the answer redirects, where that is another one."""
-    is_other = origin_of(c.next_url) and c.next_url not in [c.asked_url, *(hop.asked for hop in c.hops)]
-    return [ask_for(without_user_info(c.next_url), c)] if is_other else []
+    url = without_user_info(c.next_url) if origin_of(c.next_url) else None
+    is_other = url is not None and url not in [c.asked_url, *(hop.asked for hop in c.hops)]
+    return [ask_for(url, c)] if is_other else []
 
 
 def location(value):
