@@ -12,8 +12,8 @@ from commands.urls import secure, without_user_info
 STEPS = (["f%d" % number for number in range(1, 10)] + ["1", "2", "3", "4", "5", "6"] + ["p24", "p25", "p26"]
          + ["7", "8", "9", "10", "11"] + ["24", "25", "26"] + ["12", "13"] + ["14", "15", "16", "17", "18"])
 # What comes at the end of a chain; what a script sees of less than all comes before that it sees all.
-ENDS = ["19", "20", "21", "22 opaque", "22 without a body", "23", "22 incomplete", "22", "no rule", "opaque", "broken body", "headers hidden", "read",
-        "no verdict, the policy refuses it", "no verdict"]
+ENDS = ["19", "20", "21", "22 opaque", "22 without a body", "23", "22 incomplete", "22", "no rule", "opaque",
+        "broken body", "headers hidden", "read", "no verdict, the policy refuses it", "no verdict"]
 LAST = 1000  # the level of an end
 # Ways without a change that a table can name, and why.
 UNMADE = {
@@ -55,7 +55,8 @@ def step_of_integrity(case):
     way = case.explanation.way
     if way == "integrity/opaqueredirect":
         return "14"
-    names = {"opaque": "22 opaque", "no-body": "22 without a body", "incomplete": "22 incomplete", "toobig": "22 incomplete"}
+    names = {"opaque": "22 opaque", "no-body": "22 without a body", "incomplete": "22 incomplete",
+             "toobig": "22 incomplete"}
     return names.get(way.partition("/")[2], "22")
 
 

@@ -27,8 +27,8 @@ Violation = namedtuple("Violation", "policy enforced directive url redirected at
 
 
 class Hop:
-    """One URL of a chain: as it was asked for, as it was sent (None where nothing was), the origin that was asked at all, and
-    whether its host was a known one."""
+    """One URL of a chain: as it was asked for, as it was sent (None where nothing was), the origin that was asked at
+    all, and whether its host was a known one."""
 
     def __init__(self, asked):
         self.asked = asked
@@ -176,7 +176,8 @@ class Case:
 
     def is_followed(self, answer):
         head = answer.head if answer else None
-        return bool(head and head.status in REDIRECTS and head.get("Location")) and self.command.options["redirect"] == "follow"
+        is_redirect = head is not None and head.status in REDIRECTS and bool(head.get("Location"))
+        return is_redirect and self.command.options["redirect"] == "follow"
 
     def upgrade_of(self, hop):
         """What made the URL of a hop one of https: hsts, policy or mixed; None where nothing did."""
@@ -252,8 +253,9 @@ class Case:
 
     @property
     def preflight_head(self):
-        """The head that answered a preflight at this URL, or would by the scenario's servers; None where that is not known."""
-        heads = [answer.head for request, answer in self.exchanges if is_preflight(request) and self.whole(request) == self.asked_url]
+        """The head that answered a preflight at this URL, or would by the scenario's servers; None where it is not known."""
+        heads = [answer.head for request, answer in self.exchanges
+                 if is_preflight(request) and self.whole(request) == self.asked_url]
         if heads or self.is_net:
             return heads[-1] if heads else None
         request = copy.copy(self.request)
@@ -325,7 +327,7 @@ class Case:
 
     @cached_property
     def violations(self):
-        """Each violation that was told, once for each policy and URL; of a URL that is not loaded here, as they would be."""
+        """Each violation that was told, once for each policy and URL; of a URL that is not loaded here those that were."""
         found, hops, number = [], self.hops, 0
         for event in self.fetch.events:
             if event.kind == "send" and not is_preflight(event):
@@ -468,7 +470,7 @@ class Case:
 
     @property
     def verdict(self):
-        """In a word: read, refused, hidden (the script sees nothing of the answer), or none where this engine gives none."""
+        """In a word: read, refused, hidden (the script sees nothing of the answer), or none."""
         if self.result.is_refused():
             is_coded = self.result.number == 23 and not self.result.is_fault
             return "none" if is_coded or (self.is_unloaded and not self.is_mixed_socket) else "refused"

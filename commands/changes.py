@@ -388,7 +388,8 @@ def post_or_no_body(c):
 
 def mended_header(c):
     """The list of headers, each name and value mended, without those of which nothing is left."""
-    headers = [["".join(TOKEN.findall(name)), re.sub("[\0\r\n]+", " ", value)] for name, value in c.command.options["headers"]]
+    headers = [["".join(TOKEN.findall(name)), re.sub("[\0\r\n]+", " ", value)]
+               for name, value in c.command.options["headers"]]
     return [[edits.request("headers", [pair for pair in headers if pair[0]])]]
 
 

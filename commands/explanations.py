@@ -50,7 +50,8 @@ CORS_CHECK = [
         "{c.allows}", ALLOW_ORIGIN, "{change}; or redirect within one origin", "redirects.md#origin-null", changes.origin_null),
     Way("cors/preflight-redirect", "7", lambda c: c.is_redirect,
         "the answer to the preflight redirects ({c.status}) to {c.whereto}, and preflights are not followed, whatever its "
-        "headers are", "Location", "{change}; look for https, a slash at the end, or a login", PREFLIGHT, changes.next_url_or_cors),
+        "headers are", "Location", "{change}; look for https, a slash at the end, or a login", PREFLIGHT,
+        changes.next_url_or_cors),
     Way("cors/preflight-login", "7", lambda c: c.allowed_origin is None and c.status in (401, 403, 407),
         "the answer to the preflight is {c.status}, without CORS headers: a preflight never carries a cookie or Authorization",
         ALLOW_ORIGIN, "{change}, before the login is asked for", PREFLIGHT, changes.cors),
@@ -77,8 +78,8 @@ CORS_CHECK = [
         "{change}; and `Vary: Origin`, where several origins ask", CORS, changes.cors),
     Way("cors/written-otherwise", "7 12", lambda c: c.allowed_origin != c.origin and c.is_alike(),
         "`{c.allowed_origin}` is not `{c.origin}`, byte for byte, as the request says its origin", ALLOW_ORIGIN,
-        "{change}; an origin is scheme, ://, host, and the port where it is not the default: no slash, no blank, no quotes", CORS,
-        changes.cors),
+        "{change}; an origin is scheme, ://, host, and the port where it is not the default: no slash, no blank, no quotes",
+        CORS, changes.cors),
     Way("cors/other-origin", "7 12", lambda c: c.allowed_origin != c.origin,
         "the answer allows `{c.allowed_origin}`, and the request is of `{c.origin}`", ALLOW_ORIGIN,
         "{change}, where the server trusts this origin; and `Vary: Origin`, where several origins ask", CORS, changes.cors),
@@ -142,16 +143,17 @@ UNLOADED = [
         "no verdict: this engine loads no `blob:` URL; a browser would, where a script of the page's origin made it, "
         "{c.policy_verdict}", "", "{c.unloaded_change}", FETCH),
     Way("mixed/websocket", "1", lambda c: c.is_unloaded and c.is_mixed_socket,
-        "the page is secure, and {c.url} is not: no browser opens this WebSocket", "", "{change}", MIXED, changes.secure_socket),
+        "the page is secure, and {c.url} is not: no browser opens this WebSocket", "", "{change}", MIXED,
+        changes.secure_socket),
     Way("no-verdict/websocket", "1", lambda c: c.is_unloaded,
-        "no verdict: this engine opens no WebSocket; a browser would, by `new WebSocket`, {c.policy_verdict}", "", "{c.unloaded_change}",
-        FETCH),
+        "no verdict: this engine opens no WebSocket; a browser would, by `new WebSocket`, {c.policy_verdict}", "",
+        "{c.unloaded_change}", FETCH),
 ]
 
 POLICIES = [
     Way("policy/quotes", "4", lambda c: c.unquoted_words != [],
-        "{c.policy} has `{c.directive_text}`, where `{c.unquoted_word}` lacks its quotes (`{c.unquoted_written}`), and so is no "
-        "keyword, nonce or hash", "", "{change}", "csp.md#words-section-231-source-expression", changes.put_quotes),
+        "{c.policy} has `{c.directive_text}`, where `{c.unquoted_word}` lacks its quotes (`{c.unquoted_written}`), and so is "
+        "no keyword, nonce or hash", "", "{change}", "csp.md#words-section-231-source-expression", changes.put_quotes),
     Way("policy/before-upgrade", "4", lambda c: c.is_before_upgrade,
         "{c.policy} has `{c.directive_text}`, and is asked of {c.policy_url} as it is before any upgrade", "", "{change}",
         "csp.md#when-a-fetch-asks-them-section-41-integration-with-fetch", changes.before_upgrade),
@@ -175,8 +177,8 @@ POLICIES = [
         "matches", "",
         "give the server a name; or {change}", WORDS, changes.add_source),
     Way("policy/colon", "4", lambda c: c.near_fault == "colon",
-        "{c.policy} has `{c.directive_text}`, where `{c.near_text}` lacks its colon (`{c.near_written}`), and so is the name of a "
-        "host", "", "{change}", WORDS, changes.rewrite),
+        "{c.policy} has `{c.directive_text}`, where `{c.near_text}` lacks its colon (`{c.near_written}`), and so is the "
+        "name of a host", "", "{change}", WORDS, changes.rewrite),
     Way("policy/path-star", "4", lambda c: c.near_fault == "path-star",
         "{c.policy} has `{c.near_text}`, whose path is no pattern: `*` stands for itself there, and a path that ends in a "
         "slash for all below it", "", "{change}", WORDS, changes.rewrite),
@@ -285,8 +287,8 @@ ANSWERS = [
         "the response is opaque, since it is of another origin and the mode is no-cors: there is no body to match", "",
         "{change}", BODY, changes.in_cors),
     Way("integrity/opaqueredirect", "22", lambda c: c.is_redirect and c.command.options["redirect"] == "manual",
-        "the answer redirects ({c.status}), and the redirect mode is manual: there is no body to match", "Location", "{change}", BODY,
-        changes.follow),
+        "the answer redirects ({c.status}), and the redirect mode is manual: there is no body to match", "Location", "{change}",
+        BODY, changes.follow),
     Way("integrity/no-body", "22", lambda c: not c.has_body,
         "an answer with the status {c.status} to {c.request.method} has no body that could match", "",
         "{change}", BODY, changes.body_or_no_integrity),
@@ -303,7 +305,8 @@ ANSWERS = [
         "a weaker digest of the integrity text matches, and the {c.strongest} does not: the strongest alone counts", "",
         "{change}", "integrity.md", changes.integrity),
     Way("integrity/mismatch", "22", always,
-        "the body that came is not the one of the integrity text", "", "make the digest anew of the bytes as they are sent: {change}", BODY, changes.integrity),
+        "the body that came is not the one of the integrity text", "",
+        "make the digest anew of the bytes as they are sent: {change}", BODY, changes.integrity),
     Way("no-verdict/coded", "23", always,
         "no verdict on the body: it is coded, and this engine decodes none (requests say `Accept-Encoding: identity`); a "
         "browser would, and CORS, policies and types let it", "Content-Encoding",
