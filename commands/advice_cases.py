@@ -167,6 +167,10 @@ POLICIES = {
         "img-src https://img.test", load("image", "http://img.test/i.png"), **at(IMAGES, rule())),
     "a report of what is upgraded, and no word": reported(
         "img-src 'self'", load("image", "http://img.test/i.png"), **at(IMAGES, rule())),
+    "a report of what is upgraded, without quotes": reported(
+        "img-src self", load("image", "http://img.test/i.png"), **at(IMAGES, rule())),
+    "two nonces": scenario(script(nonce="a"), headers=[[POLICY, "script-src 'nonce-a'"], [POLICY, "script-src 'nonce-b'"]]),
+    "two nonces, and none": scenario(script(), headers=[[POLICY, "script-src 'nonce-a'"], [POLICY, "script-src 'nonce-b'"]]),
     "a report of mixed content": reported("connect-src 'self'", fetch("http://api.test/x")),
     "a report behind a redirect": reported("connect-src 'self'", fetch("/go"), servers=[
         {"origin": PAGE, "rules": [led(API + "/x")]}, {"origin": API, "rules": [rule(200, [OK])]}]),

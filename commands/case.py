@@ -429,12 +429,16 @@ class Case:
         return csp.nonces(self.directive[1]) if self.kind in ("script", "style") else []
 
     @property
-    def policy_nonce(self):
-        return self.policy_nonces[0] if self.policy_nonces else ""
-
-    @property
     def nonce(self):
         return self.command.options.get("nonce", "")
+
+    @property
+    def common_nonce(self):
+        """The nonce that is to stand at the element: its own, where a policy has it, or the first of a policy; or an empty text."""
+        effective = csp.EFFECTIVE[self.kind]
+        lists = [csp.deciding(policy, effective)[1] for _, policy in self.policies]
+        found = [nonce for words in lists for nonce in csp.nonces([dict(csp.unquoted(words)).get(word, word) for word in words])]
+        return self.nonce if self.nonce in found else found[0] if found else ""
 
     @property
     def is_before_upgrade(self):

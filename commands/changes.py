@@ -224,11 +224,11 @@ def with_words(c, words):
 
 
 def by_nonce(c, words):
-    """The policy's nonce at the element; where it has none a new one at both."""
-    own = csp.nonces(words)
-    nonce = own[0] if own else "r4nd0m"
-    more = [] if own and words == c.directive[1] else [policy_edit(c, words if own else [*words, "'nonce-%s'" % nonce])]
-    return more + [edits.request("nonce", nonce)]
+    """One nonce at the element and in all policies: a new one where there is none."""
+    nonce = c.common_nonce or "r4nd0m"
+    words = words if nonce in csp.nonces(words) else [*words, "'nonce-%s'" % nonce]
+    more = [policy_edit(c, words)] if words != c.directive[1] else []
+    return more + ([edits.request("nonce", nonce)] if nonce != c.nonce else [])
 
 
 def add_source(c):
@@ -238,6 +238,8 @@ def add_source(c):
 def put_quotes(c):
     """And the policy's nonce at the element, where it has another one."""
     words = quoted(c)
+    if c.is_before_upgrade:
+        return [lead_secure(c) + with_words(of_secure(c), words)]
     is_other = c.kind in ("script", "style") and csp.nonces(words) and not csp.passes(words, c.policy_asked)
     return ([by_nonce(c, words)] if is_other else []) + [with_words(c, words)]
 
@@ -272,11 +274,20 @@ def secure_or_rewrite(c):
 
 def before_upgrade(c):
     """The page asks over https itself; and the policy lets that."""
-    url = secure(c.policy_url)
-    case = c.of_violation(c.violated._replace(url=url))
+    case = of_secure(c)
     own = [] if csp.passes(c.directive[1], case.policy_asked) else with_words(case, filled(c.directive[1]))
-    lead = [edits.request("url", url)] if not c.violated.redirected else leading(c, url)
-    return [lead + own]
+    return [lead_secure(c) + own]
+
+
+def of_secure(c):
+    """The case of the violation that there would be over https."""
+    return c.of_violation(c.violated._replace(url=secure(c.policy_url)))
+
+
+def lead_secure(c):
+    """The page asks for the URL of a violation over https, or the redirect leads there so."""
+    url = secure(c.policy_url)
+    return leading(c, url) if c.violated.redirected else [edits.request("url", url)]
 
 
 def leading(c, url):
@@ -318,9 +329,9 @@ def integrity(c):
     """The digest anew, and in the policies that pass the element by it alone."""
     found, effective = [edits.request("integrity", c.right_digest)], csp.EFFECTIVE[c.kind]
     asked = c.asked_of(Violation(0, True, effective, c.asked_url, len(c.chain) > 1, False))
-    for number, (enforced, policy) in enumerate(c.policies):
+    for number, (_, policy) in enumerate(c.policies):
         name, own = csp.deciding(policy, effective)
-        if enforced and name in policy and not csp.passes(own, asked._replace(integrity=c.right_digest)):
+        if name in policy and csp.passes(own, asked) and not csp.passes(own, asked._replace(integrity=c.right_digest)):
             found.append(edits.policy(number, csp.written_for(name, effective), [*own, "'%s'" % c.right_digest]))
     return [found]
 
