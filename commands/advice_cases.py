@@ -158,6 +158,7 @@ POLICIES = {
     "an image that is upgraded": policed("img-src 'self'", load("image", "http://img.test/i.png")),
     "a fetch that is upgraded": policed("connect-src 'self'" + UPGRADE, fetch("http://api.test/x")),
     "an upgraded image of an address": policed("img-src 'self'" + UPGRADE, load("image", "http://203.0.113.7/i.png")),
+    "a page of an address": policed("connect-src https://cdn.test", fetch("/x"), page="http://192.0.2.7:8000/"),
     "three policies": scenario(
         fetch(), headers=[[POLICY, "default-src 'self', connect-src 'none'"], [POLICY, "connect-src https://cdn.test"]]),
     "two policies, and one that reports": scenario(

@@ -391,6 +391,11 @@ class Case:
         return self.violated.url
 
     @property
+    def is_policy_address(self):
+        """Whether the host of the URL is an IP address, and not that of the page."""
+        return is_address(host_of(self.policy_url)) and origin_of(self.policy_url) != self.page_origin
+
+    @property
     def policy_asked(self):
         return self.asked_of(self.violated)
 

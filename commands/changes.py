@@ -107,7 +107,8 @@ def origin_null(c):
     needs = Needs(c.asked_url, c.page_origin, c.includes, c.method, names, c.preflight_head, own, c.has_listener)
     itself = ask_for(c.asked_url, c) + ([] if origin_of(c.asked_url) == c.page_origin else needs.all_edits())
     star = [{**edit, "value": "*"} if edit["value"] == "null" else edit for edit in cors(c)[0]]
-    return [itself] + ([] if c.includes else [star])
+    is_loop = c.asked_url in [hop.sent for hop in c.hops[:-1]]
+    return ([] if is_loop else [itself]) + ([] if c.includes else [star])
 
 
 def method_in_another_case(c):
@@ -197,10 +198,10 @@ def policy_edit(c, words):
 def source_of(c):
     """The word that lets the URL pass, and no more than its origin."""
     url = over(c.policy_url, c)
-    if scheme_of(url) not in ("http", "https", "ws", "wss") or csp.is_address(host_of(url)):
-        return scheme_of(url) + ":"
     if origin_of(url) == c.page_origin:
         return "'self'"
+    if scheme_of(url) not in ("http", "https", "ws", "wss") or csp.is_address(host_of(url)):
+        return scheme_of(url) + ":"
     return re.match(r"[^:]*://[^/?#]*", origin_of(url) or url).group()
 
 

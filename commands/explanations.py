@@ -172,7 +172,7 @@ POLICIES = [
         "{change}", POLICY, changes.add_hashes),
     Way("policy/nothing-allowed", "4", lambda c: [word.lower() for word in c.directive[1]] in ([], ["'none'"]),
         "{c.policy} has `{c.directive_text}`, which lets nothing pass", "", "{change}", POLICY, changes.add_source),
-    Way("policy/ip-address", "4", lambda c: csp.is_address(csp.parts_of(c.policy_url).hostname or ""),
+    Way("policy/ip-address", "4", lambda c: c.is_policy_address,
         "{c.policy} has `{c.directive_text}`, and the host of {c.policy_url} is an IP address, which no word with a host "
         "matches", "",
         "give the server a name; or {change}", WORDS, changes.add_source),
@@ -471,6 +471,7 @@ class Explanation:
         self.way = way.name
         self.condition = condition.format(c=c)
         told = edits.sentence([shown(one) for one in found] if is_asked else found)
+        change = change if told else change.replace("{change}; or ", "")
         self.change = change.format(c=c, change=told or NOTHING)
         self.edits = found[0] if found else []
         self.others = found[1:]
