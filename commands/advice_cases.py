@@ -185,6 +185,7 @@ OTHERS = {
     "a data URL that nothing hinders": scenario(load("image", "data:image/png,a")),
     "a data URL under two policies": scenario(
         load("font", "data:font/woff2,a"), headers=[[POLICY, "default-src 'self'"], [POLICY, "font-src *"]]),
+    "a script of a data URL": policed("default-src 'self' data", load("script", "data:text/javascript,a")),
     "a scheme without its colon": policed("img-src 'self' data", load("image", "data:image/png,a")),
     "a blob of a policy": policed("connect-src *", fetch("blob:https://shop.test/1")),
     "a WebSocket of a policy": policed("default-src 'self'", fetch("wss://api.test:8443/x")),

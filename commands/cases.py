@@ -191,8 +191,9 @@ SEEN = {
     "seen/star-with-credentials": answered(OK, TRUE, ["Access-Control-Expose-Headers", "*"], ["X-Total", "4"], **INCLUDE),
     "seen/hidden-headers": answered(OK, ["X-Total", "4"]),
 }
-# ways that are told of policies that only report
+# ways that are told of other policies alone: of URLs that this engine does not load, and of those that only report
 REPORTED = {
+    "policy/data-script": policed("script-src 'self'", load("script", "data:text/javascript,a")),
     "policy/before-upgrade": scenario(load("image", "http://img.test/x"), headers=[[POLICY + "-Report-Only", "img-src https:"]]),
 }
 # what bin/ask alone comes to, by connections of its own: commands/check_ask reaches each

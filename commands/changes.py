@@ -226,10 +226,14 @@ def with_words(c, words):
 
 def by_nonce(c, words):
     """One nonce at the element and in all policies: a new one where there is none."""
-    nonce = c.common_nonce or "r4nd0m"
-    words = words if nonce in csp.nonces(words) else [*words, "'nonce-%s'" % nonce]
+    value = c.common_nonce or "r4nd0m"
+    words = words if value in csp.nonces(words) else [*words, "'nonce-%s'" % value]
     more = [policy_edit(c, words)] if words != c.directive[1] else []
-    return more + ([edits.request("nonce", nonce)] if nonce != c.nonce else [])
+    return more + ([edits.request("nonce", value)] if value != c.nonce else [])
+
+
+def nonce(c):
+    return [by_nonce(c, filled(c.directive[1]))]
 
 
 def add_source(c):

@@ -59,7 +59,7 @@ REQUEST = {
     "redirect": "ask with `redirect` `%s`",
     "method": "use the method %s",
     "crossorigin": "write `crossorigin=\"%s\"` at the element",
-    "nonce": "give the element the nonce `%s`",
+    "nonce": "give the element the nonce `%s`, made anew for each answer",
     "integrity": "write the integrity text `%s`",
 }
 

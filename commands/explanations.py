@@ -10,6 +10,7 @@ from collections import namedtuple
 
 from commands import changes, csp, edits
 from commands.needs import ALLOW_CREDENTIALS, ALLOW_HEADERS, ALLOW_METHODS, ALLOW_ORIGIN, EXPOSE_HEADERS, TOKEN
+from commands.urls import scheme_of
 
 # `results` are numbers of network errors; a fault's has an f before it, and a result that is none of both an s.
 Way = namedtuple("Way", "name results holds condition header change rule changes", defaults=[changes.nothing])
@@ -157,13 +158,16 @@ POLICIES = [
     Way("policy/before-upgrade", "4", lambda c: c.is_before_upgrade,
         "{c.policy} has `{c.directive_text}`, and is asked of {c.policy_url} as it is before any upgrade", "", "{change}",
         "csp.md#when-a-fetch-asks-them-section-41-integration-with-fetch", changes.before_upgrade),
+    Way("policy/data-script", "4", lambda c: c.kind == "script" and scheme_of(c.policy_url) == "data",
+        "{c.policy} has `{c.directive_text}`, and a word that lets this `data:` URL pass lets every script pass that finds its way "
+        "into the page", "", "serve the script as a file; or {change}", POLICY, changes.nonce),
     Way("policy/strict-dynamic", "4",
         lambda c: c.kind == "script" and "'strict-dynamic'" in [word.lower() for word in c.directive[1]],
         "{c.policy} has `{c.directive_text}`: with 'strict-dynamic' a script that a parser inserted passes by its "
         "nonce or hash alone", "", "{change}", POLICY, changes.nonce_or_inserted),
     Way("policy/nonce-differs", "4", lambda c: c.policy_nonces != [] and c.nonce != "",
         "{c.policy} has `{c.directive_text}`, and the element's nonce is `{c.nonce}`", "",
-        "{change}; a nonce is made anew for each answer", POLICY, changes.nonce_or_source),
+        "{change}", POLICY, changes.nonce_or_source),
     Way("policy/nonce-absent", "4", lambda c: c.policy_nonces != [],
         "{c.policy} has `{c.directive_text}`, and the element has no nonce", "", "{change}", POLICY, changes.nonce_or_source),
     Way("policy/hash-absent", "4", lambda c: c.kind == "script" and csp.hashes(c.directive[1]) != []
