@@ -1,15 +1,40 @@
 """What is known of one fetch that was played: the command, the requests with their answers, and the result. The table of
 explanations asks it, and its texts name its parts."""
 import base64
+import copy
 import hashlib
 import re
+from collections import namedtuple
+from functools import cached_property
 from urllib.parse import urlsplit
 
-from commands import csp
+from commands import answers, csp
+from commands.needs import (ALLOW_CREDENTIALS, ALLOW_HEADERS, ALLOW_METHODS, ALLOW_ORIGIN, EXPOSE_HEADERS, TOKEN, Needs,
+                            items_of)
 from commands.play_text import header_of, is_preflight
 from commands.scenario import joined, origin_of
+from commands.urls import host_of, is_address, is_trustworthy, scheme_of, secure
 
 ALGORITHMS = ("sha256", "sha384", "sha512")
+CHUNK_LINE = re.compile(rb"([0-9a-fA-F]{1,16})[^\r\n]*\r\n")
+REDIRECTS = (301, 302, 303, 307, 308)
+# Schemes that a browser loads by itself, and this engine does not.
+LOCAL = ("data", "blob")
+SOCKETS = ("ws", "wss")
+# A policy that a request violates: its number and disposition, the effective directive, the URL that it was asked of, and
+# whether a redirect led there, or it was that of the response.
+Violation = namedtuple("Violation", "policy enforced directive url redirected at_response")
+
+
+class Hop:
+    """One URL of a chain: as it was asked for, as it was sent (None where nothing was), the origin that was asked at
+    all, and whether its host was a known one."""
+
+    def __init__(self, asked):
+        self.asked = asked
+        self.sent = None
+        self.origin = None
+        self.is_known = False
 
 
 class Case:
@@ -27,6 +52,7 @@ class Case:
         self.request, self.answer = exchanges[-1] if exchanges else (None, None)
         self.chain = [(request, answer) for request, answer in exchanges if not is_preflight(request)]
         self.document = scenario.documents()[fetch.document.number]
+        self.about = None
 
     # ---- the page and the request
 
@@ -43,9 +69,19 @@ class Case:
         return self.top_origin != self.page_origin
 
     @property
+    def is_secure(self):
+        """Whether the page prohibits mixed content."""
+        return is_trustworthy(self.page_origin) or is_trustworthy(self.top_origin)
+
+    @property
     def origin(self):
         """As the request says it."""
-        return header_of(self.request, "Origin") if self.request else self.page_origin
+        return (header_of(self.request, "Origin") if self.request else None) or self.page_origin
+
+    @property
+    def has_listener(self):
+        """Whether there is an upload listener, which asks for a preflight."""
+        return self.command.options.get("upload", False)
 
     @property
     def includes(self):
@@ -71,8 +107,20 @@ class Case:
         return self.head.get("Location") if self.head else None
 
     @property
+    def whereto(self):
+        """Where the answer redirects to, as it says it."""
+        return self.location if self.location is not None else "nowhere (it has no Location)"
+
+    @property
+    def next_url(self):
+        """The whole URL of the Location."""
+        return joined(self.location, self.asked_url) if self.location else ""
+
+    @property
     def url(self):
         """The URL that the result is about."""
+        if self.result.number == 4 and self.refused_before:
+            return self.upgraded(self.hops[-1])
         if self.refused_before and self.chain:
             return joined(self.location or "", self.asked_url)
         return self.asked_url
@@ -94,7 +142,7 @@ class Case:
 
     @property
     def scheme(self):
-        return self.url.partition(":")[0] if self.url else ""
+        return scheme_of(self.url)
 
     @property
     def port(self):
@@ -105,7 +153,53 @@ class Case:
 
     @property
     def is_known_host(self):
-        return any(call.op == "match" and call.reply == "yes" for call in self.fetch.of("call"))
+        """Whether the host of the URL is a known one, and the page would be of its origin but for the scheme."""
+        return self.hops[-1].is_known and origin_of(self.hops[-1].asked) == self.page_origin
+
+    # ---- the URLs of the chain
+
+    @cached_property
+    def hops(self):
+        hops, left = [Hop(joined(self.command.url, self.document["url"]))], iter(self.exchanges)
+        for event in self.fetch.events:
+            if event.kind == "call" and event.op == "match":
+                hops[-1].is_known |= event.reply == "yes"
+            if event.kind == "send":
+                request, answer = next(left, (event, None))
+                hops[-1].origin = request.origin
+                if not is_preflight(request):
+                    hops[-1].sent = self.whole(request)
+                    if self.is_followed(answer):
+                        hops.append(Hop(joined(answer.head.get("Location"), hops[-1].sent)))
+        is_led = hops[-1].origin is not None or self.refused_before or len(hops) == 1
+        return hops if is_led else hops[:-1]
+
+    def is_followed(self, answer):
+        head = answer.head if answer else None
+        is_redirect = head is not None and head.status in REDIRECTS and bool(head.get("Location"))
+        return is_redirect and self.command.options["redirect"] == "follow"
+
+    def upgrade_of(self, hop):
+        """What made the URL of a hop one of https: hsts, policy or mixed; None where nothing did."""
+        if scheme_of(hop.asked) != "http" or (hop.origin or "https:").startswith("http:"):
+            return None
+        if hop.is_known:
+            return "hsts"
+        if hop.origin is None and (self.result.is_fault or self.result.number in (1, 3)):
+            return None
+        if any(enforced and "upgrade-insecure-requests" in policy for enforced, policy in self.policies):
+            return "policy"
+        is_upgradeable = self.kind in ("image", "audio", "video") and self.is_secure and not is_trustworthy(hop.asked)
+        return "mixed" if is_upgradeable and not is_address(host_of(hop.asked)) else None
+
+    def upgraded(self, hop):
+        """The URL of a hop as enforced policies are asked of it."""
+        return secure(hop.asked) if self.upgrade_of(hop) in ("policy", "mixed") else hop.asked
+
+    @property
+    def is_upgradeable_address(self):
+        """Whether mixed content would upgrade it, were its host no IP address."""
+        return self.kind in ("image", "audio", "video") and is_address(host_of(self.url))
 
     # ---- the answer
 
@@ -119,18 +213,23 @@ class Case:
 
     @property
     def is_redirect(self):
-        return self.status in (301, 302, 303, 307, 308)
+        return self.status in REDIRECTS
 
     def get(self, name):
         return self.head.get(name) if self.head else None
 
     @property
     def allowed_origin(self):
-        return self.get("Access-Control-Allow-Origin")
+        return self.get(ALLOW_ORIGIN)
+
+    @property
+    def allows(self):
+        """What the answer allows, as a verb has it."""
+        return "has no " + ALLOW_ORIGIN if self.allowed_origin is None else "allows `%s`" % self.allowed_origin
 
     @property
     def allowed_credentials(self):
-        return self.get("Access-Control-Allow-Credentials")
+        return self.get(ALLOW_CREDENTIALS)
 
     @property
     def has_no_rule(self):
@@ -144,11 +243,39 @@ class Case:
         told = sorted({" ".join(filter(None, [rule.get("method", ""), rule.get("path", "any path")])) for rule in rules})
         return "its rules are for " + ", ".join(told[:8]) if told else "it has no rules"
 
+    @cached_property
+    def needs(self):
+        """What CORS wants of the answers at the URL of the last request."""
+        is_asked = is_preflight(self.request)
+        names = [name for name in self.asked_headers.split(",") if name] if is_asked else []
+        return Needs(self.asked_url, self.origin, self.includes, self.method, names,
+                     self.head if is_asked else None, None if is_asked else self.head, is_asked)
+
     @property
-    def wanted(self):
-        """The CORS headers that would let the answer pass."""
-        lines = "`Access-Control-Allow-Origin: %s`" % self.origin
-        return lines + (" and `Access-Control-Allow-Credentials: true`" if self.includes else "")
+    def preflight_head(self):
+        """The head that answered a preflight at this URL, or would by the scenario's servers; None where it is not known."""
+        heads = [answer.head for request, answer in self.exchanges
+                 if is_preflight(request) and self.whole(request) == self.asked_url]
+        if heads or self.is_net:
+            return heads[-1] if heads else None
+        request = copy.copy(self.request)
+        request.method = "OPTIONS"
+        return answers.scripted(self.scenario, request).head
+
+    @property
+    def is_page_in_small(self):
+        """Whether the page asks by a method in small letters that the server lists in capitals."""
+        return self.same_method == self.method.upper() != ""
+
+    @cached_property
+    def needs_told(self):
+        """The same, where the page asks as it should: by the method in capitals, and without a User-Agent of its own."""
+        needs = copy.copy(self.needs)
+        if self.result.number == 10 and self.is_page_in_small:
+            needs.method = self.same_method
+        if self.result.number == 11 and self.result.detail == "user-agent":
+            needs.names = [name for name in needs.names if name != "user-agent"]
+        return needs
 
     def is_alike(self):
         """Whether the allowed origin is the page's, written otherwise."""
@@ -159,14 +286,14 @@ class Case:
     # ---- lists of a preflight's answer
 
     def listed(self, name):
-        return [item.strip(" \t") for item in (self.get(name) or "").split(",") if item.strip(" \t")]
+        return items_of(self.get(name))
 
     @property
     def bad_item(self):
         """The first item of the two lists that is no token, with the header's name; or None."""
-        for name in ("Access-Control-Allow-Methods", "Access-Control-Allow-Headers"):
+        for name in (ALLOW_METHODS, ALLOW_HEADERS):
             for item in self.listed(name):
-                if not re.fullmatch(r"[!#$%&'*+\-.^_`|~0-9A-Za-z]+", item):
+                if not TOKEN.fullmatch(item):
                     return name, item
         return None
 
@@ -180,11 +307,11 @@ class Case:
 
     @property
     def methods(self):
-        return self.listed("Access-Control-Allow-Methods")
+        return self.listed(ALLOW_METHODS)
 
     @property
     def names(self):
-        return self.listed("Access-Control-Allow-Headers")
+        return self.listed(ALLOW_HEADERS)
 
     @property
     def same_method(self):
@@ -193,20 +320,61 @@ class Case:
 
     # ---- the document's policies
 
-    @property
+    @cached_property
     def policies(self):
-        return csp.policies(self.document.get("headers", []))
+        """Of each whether it is enforced, and its directives."""
+        return csp.numbered(self.document.get("headers", []))
+
+    @cached_property
+    def violations(self):
+        """Each violation that was told, once for each policy and URL; of a URL that is not loaded here those that were."""
+        found, hops, number = [], self.hops, 0
+        for event in self.fetch.events:
+            if event.kind == "send" and not is_preflight(event):
+                number += 1
+            if event.kind == "violation":
+                at_response = number == len(hops)
+                index = number - 1 if at_response else number
+                hop = hops[index]
+                url = hop.sent if at_response else self.upgraded(hop) if event.enforced else hop.asked
+                found.append(Violation(event.policy, event.enforced, event.directive, url, index > 0, at_response))
+        return distinct(self.would_violate() if self.is_unloaded and not self.is_mixed_socket else found)
+
+    def would_violate(self):
+        """The policies that would refuse the URL."""
+        effective = csp.EFFECTIVE[self.kind]
+        asked = self.asked_of(Violation(0, True, effective, self.url, False, False))
+        found = []
+        for number, (enforced, policy) in enumerate(self.policies):
+            name, words = csp.deciding(policy, effective)
+            if name in policy and not csp.passes(words, asked):
+                found.append(Violation(number, enforced, effective, self.url, False, False))
+        return found
+
+    def asked_of(self, violation):
+        """What its policy was asked of."""
+        options = self.command.options
+        return csp.Asked(violation.url, self.document["url"], self.kind, options.get("nonce", ""), options["integrity"],
+                         options.get("parser", True), violation.redirected)
+
+    def of_violation(self, violation):
+        """The same case, where it is about this violation."""
+        case = copy.copy(self)
+        case.about = violation
+        return case
 
     @property
     def violated(self):
-        """The first enforced violation that stands before the result, or None."""
-        found = [one for one in self.fetch.of("violation") if one.enforced]
-        return found[0] if found else None
+        """The violation that the case is about: the first enforced one of the URL that was refused, or None."""
+        enforced = [one for one in self.violations if one.enforced]
+        return self.about or (enforced[0] if enforced else None)
 
     @property
     def directive(self):
         """The directive of the violated policy that decided, with its words."""
-        return csp.deciding(self.policies[self.violated.policy], self.violated.directive) if self.violated else ("", [])
+        if not self.violated:
+            return "", []
+        return csp.deciding(self.policies[self.violated.policy][1], self.violated.directive)
 
     @property
     def directive_text(self):
@@ -214,8 +382,108 @@ class Case:
         return " ".join([name, *words])
 
     @property
-    def policy_number(self):
-        return self.violated.policy if self.violated else 0
+    def policy(self):
+        """Its number, and whether it only reports."""
+        return "policy %d%s" % (self.violated.policy, "" if self.violated.enforced else " (report-only)")
+
+    @property
+    def policy_url(self):
+        return self.violated.url
+
+    @property
+    def is_policy_address(self):
+        """Whether the host of the URL is an IP address, and not that of the page."""
+        return is_address(host_of(self.policy_url)) and origin_of(self.policy_url) != self.page_origin
+
+    @property
+    def policy_asked(self):
+        return self.asked_of(self.violated)
+
+    @property
+    def near_word(self):
+        """A word that would match, were it written otherwise."""
+        near = csp.near(self.directive[1], self.policy_asked) or csp.Near("", "", "")
+        return near._replace(written=re.sub("^http:", "https:", near.written)) if self.is_secure else near
+
+    @property
+    def near_fault(self):
+        return self.near_word.fault
+
+    @property
+    def near_text(self):
+        return self.near_word.word
+
+    @property
+    def near_written(self):
+        return self.near_word.written
+
+    @property
+    def unquoted_words(self):
+        return csp.unquoted(self.directive[1])
+
+    @property
+    def unquoted_word(self):
+        return self.unquoted_words[0][0] if self.unquoted_words else ""
+
+    @property
+    def unquoted_written(self):
+        return self.unquoted_words[0][1] if self.unquoted_words else ""
+
+    @property
+    def policy_nonces(self):
+        return csp.nonces(self.directive[1]) if self.kind in ("script", "style") else []
+
+    @property
+    def nonce(self):
+        return self.command.options.get("nonce", "")
+
+    @property
+    def common_nonce(self):
+        """The nonce that is to stand at the element: its own, where a policy has it, or the first of a policy; or an empty text."""
+        effective = csp.EFFECTIVE[self.kind]
+        lists = [csp.deciding(policy, effective)[1] for _, policy in self.policies]
+        found = [nonce for words in lists for nonce in csp.nonces([dict(csp.unquoted(words)).get(word, word) for word in words])]
+        return self.nonce if self.nonce in found else found[0] if found else ""
+
+    @property
+    def is_before_upgrade(self):
+        """Whether a report-only policy was asked of a URL that is upgraded behind it, or refused as mixed content."""
+        return (not self.violated.enforced and not self.violated.at_response and self.is_secure
+                and scheme_of(self.policy_url) == "http" and not is_trustworthy(self.policy_url))
+
+    # ---- URLs that this engine does not load
+
+    @property
+    def is_unloaded(self):
+        """Whether a browser would load the URL, and this engine does not."""
+        is_socket = self.kind == "fetch" and scheme_of(self.url) in SOCKETS
+        return self.result.number == 1 and not self.result.is_fault and (scheme_of(self.url) in LOCAL or is_socket)
+
+    @property
+    def is_mixed_socket(self):
+        return self.is_secure and scheme_of(self.url) == "ws" and not is_trustworthy(self.url)
+
+    @property
+    def policy_verdict(self):
+        """What the page's policies make of a URL that was not loaded."""
+        refusing = [one for one in self.violations if one.enforced]
+        if refusing:
+            return "but the page's policies do not let it: " + "; ".join(
+                "%s has `%s`" % (case.policy, case.directive_text) for case in map(self.of_violation, refusing))
+        has_policies = any(enforced for enforced, _ in self.policies)
+        return "and the page's policies let it" if has_policies else "and the page has no policy"
+
+    @property
+    def unloaded_change(self):
+        return "let each policy pass it, as follows" if self.violations else "nothing is to be changed"
+
+    @property
+    def verdict(self):
+        """In a word: read, refused, hidden (the script sees nothing of the answer), or none."""
+        if self.result.is_refused():
+            is_coded = self.result.number == 23 and not self.result.is_fault
+            return "none" if is_coded or (self.is_unloaded and not self.is_mixed_socket) else "refused"
+        return "hidden" if self.result.type in ("opaque", "opaqueredirect") else "read"
 
     # ---- the end of a fetch
 
@@ -257,7 +525,17 @@ class Case:
     @property
     def is_cut(self):
         """Whether the body ends before its framing says so, or failed."""
-        return self.link in ("hang", "reset") or len(self.answer.body()) < (self.answer.length() or 0)
+        is_chunked = (self.get("Transfer-Encoding") or "").lower() == "chunked"
+        return (self.link in ("hang", "reset") or len(self.answer.body()) < (self.answer.length() or 0)
+                or (is_chunked and not are_whole(self.answer.data, self.head.end)))
+
+    @property
+    def is_too_big(self):
+        return len(self.answer.body()) > self.body_limit
+
+    @property
+    def body_limit(self):
+        return self.scenario.data.get("body_limit", 1048576) if self.scenario.data.get("format") == 2 else 262144
 
     @property
     def hidden(self):
@@ -311,6 +589,10 @@ class Case:
         return self.command.headers[index] if index < len(self.command.headers) else ("", "")
 
     @property
+    def plain_method(self):
+        return "GET" if self.command.options["body"] is None else "POST"
+
+    @property
     def bad_name(self):
         return self.bad_header[0]
 
@@ -321,19 +603,28 @@ class Case:
         return header_of(self.request, "Access-Control-Request-Headers") or ""
 
     @property
-    def cors_headers(self):
-        return "`Access-Control-Allow-Origin: %s`" % self.page_origin
-
-    @property
     def right_type(self):
         return "text/css" if self.kind == "style" else "text/javascript"
 
     @property
-    def hidden_by_cors(self):
+    def hidden_names(self):
         """What a script might miss: not what no script sees, and not what belongs to the connection."""
         never = {"set-cookie", "set-cookie2", "vary", "connection", "transfer-encoding", "date", "server", "keep-alive",
                  "strict-transport-security", "content-encoding", "x-content-type-options", "cross-origin-resource-policy"}
-        return ", ".join(dict.fromkeys(name for name in self.hidden if name.lower() not in never))
+        return list(dict.fromkeys(name for name in self.hidden if name.lower() not in never))
+
+    @property
+    def hidden_by_cors(self):
+        return ", ".join(self.hidden_names)
+
+    @property
+    def exposed(self):
+        return self.listed(EXPOSE_HEADERS)
+
+    @property
+    def bad_exposed(self):
+        """The first item of Access-Control-Expose-Headers that is no token, or an empty text."""
+        return next((item for item in self.exposed if not TOKEN.fullmatch(item)), "")
 
     def is_same_site(self):
         return len({".".join((urlsplit(one).hostname or "").rstrip(".").split(".")[-2:])
@@ -342,3 +633,23 @@ class Case:
     @staticmethod
     def whole(request):
         return request.origin + request.target
+
+
+def are_whole(data, at):
+    """Whether chunks that begin there end with the last one."""
+    while True:
+        found = CHUNK_LINE.match(data, at)
+        if found is None:
+            return False
+        if int(found.group(1), 16) == 0:
+            return data.find(b"\r\n\r\n", found.end() - 2) >= 0
+        at = found.end() + int(found.group(1), 16) + 2
+
+
+def distinct(violations):
+    """Each of a policy and a URL once: a report-only policy is told at the request and at the response, and the URL of that
+    may be upgraded."""
+    found = {}
+    for one in violations:
+        found.setdefault((one.policy, secure(one.url)), one)
+    return list(found.values())

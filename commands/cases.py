@@ -50,10 +50,18 @@ SECRET = {"headers": [["Authorization", "Basic YTpi"]]}
 POLICY = "Content-Security-Policy"
 JUMP = [rule(302, [["Location", "https://cdn.test/y"]])]
 
+
+def policed(policy, command=None, **more):
+    """A command of a page with this policy."""
+    return scenario(command or fetch(), headers=[[POLICY, policy]], **more)
+
+
 CORS = {
     "cors/no-rule": scenario(fetch(API + "/cart/"), [rule(200, [OK], path="/cart")]),
+    "cors/preflight-redirect": scenario(fetch(**PUT), [rule(302, [["Location", "/x/"]], path="/x"), rule(200)]),
     "cors/preflight-login": scenario(fetch(**PUT), [rule(401)]),
     "cors/preflight-not-handled": scenario(fetch(**PUT), [rule(405)]),
+    "cors/preflight-status": scenario(fetch(**PUT), [rule(500)]),
     "cors/absent-on-error": answered(status=500),
     "cors/absent-on-redirect": scenario(fetch(), JUMP),
     "cors/absent": answered(),
@@ -77,20 +85,42 @@ PREFLIGHTS = {
     "preflight/method-in-another-case": scenario(fetch(method="patch"), allow(["Access-Control-Allow-Methods", "PATCH"])),
     "preflight/method-not-listed": scenario(fetch(**PUT), allow(["Access-Control-Allow-Methods", "GET, POST"])),
     "preflight/authorization-under-star": scenario(fetch(**SECRET), allow(["Access-Control-Allow-Headers", "*"])),
+    "preflight/user-agent": scenario(fetch(headers=[["User-Agent", "curl/8.9"]]), allow()),
     "preflight/header-absent": scenario(fetch(**NAMED), allow()),
     "preflight/header-star-with-credentials": scenario(fetch(**NAMED, **INCLUDE), allow(TRUE, ["Access-Control-Allow-Headers", "*"])),
     "preflight/header-not-listed": scenario(fetch(**NAMED), allow(["Access-Control-Allow-Headers", "X-B"])),
+}
+UNLOADED = {
+    "no-verdict/data": scenario(load("image", "data:image/png,a"), headers=[[POLICY, "img-src 'self'"]]),
+    "no-verdict/blob": scenario(fetch("blob:https://shop.test/1")),
+    "mixed/websocket": scenario(fetch("ws://api.test/x")),
+    "no-verdict/websocket": scenario(fetch("wss://api.test/x"), headers=[[POLICY, "connect-src wss://api.test"]]),
+}
+POLICIES = {
+    "policy/quotes": policed("connect-src self", fetch("/x")),
+    "policy/strict-dynamic": policed("script-src 'strict-dynamic' 'nonce-n1'", load("script")),
+    "policy/nonce-differs": policed("script-src 'nonce-n1'", load("script", nonce="n2")),
+    "policy/nonce-absent": policed("style-src 'nonce-n1'", load("style")),
+    "policy/hash-absent": policed("script-src 'sha256-AAAA'", load("script", integrity="sha256-" + DIGEST["sha256"]),
+                                 servers=[{"origin": API, "rules": [rule(200, body="abc")]}]),
+    "policy/nothing-allowed": policed("default-src 'none'"),
+    "policy/ip-address": policed("connect-src https://203.0.113.7", fetch("https://203.0.113.7/x")),
+    "policy/colon": policed("connect-src https"),
+    "policy/path-star": policed("connect-src https://api.test/*"),
+    "policy/path-slash": policed("connect-src https://api.test/v1", fetch(API + "/v1/x")),
+    "policy/port": policed("connect-src https://api.test", fetch("https://api.test:8443/x")),
+    "policy/scheme": policed("connect-src https://api.test", fetch("http://api.test/x"), page="http://shop.test/"),
+    "policy/host": policed("connect-src https://example.test", fetch("https://api.example.test/x")),
+    "policy/after-redirect": scenario(fetch("/go"), JUMP, PAGE, headers=[[POLICY, "connect-src 'self'"]]),
+    "policy/no-word": policed("connect-src 'self'"),
 }
 BEFORE_SENDING = {
     "scheme/host-taken-for-it": scenario(fetch("localhost:8000/x")),
     "scheme/other": scenario(fetch("ftp://api.test/x")),
     "port/bad": scenario(fetch("https://api.test:6000/x")),
+    "mixed/ip-address": scenario(load("image", "http://203.0.113.7/x")),
     "mixed/top": scenario(fetch("http://api.test/x"), page="http://widget.test/", top="https://news.test/"),
     "mixed/page": scenario(fetch("http://api.test/x")),
-    "policy/after-redirect": scenario(fetch("/go"), JUMP, PAGE, headers=[[POLICY, "connect-src 'self'"]]),
-    "policy/strict-dynamic": scenario(load("script"), headers=[[POLICY, "script-src 'strict-dynamic' 'nonce-n1'"]]),
-    "policy/nothing-allowed": scenario(fetch(), headers=[[POLICY, "default-src 'none'"]]),
-    "policy/no-word": scenario(fetch(), headers=[[POLICY, "connect-src 'self'"]]),
     "same-origin/known-host": scenario(fetch("/x", mode="same-origin"), page="http://shop.test/",
                                        hsts=[{"host": "shop.test", "subdomains": False, "until": 10}]),
     "same-origin/redirect": scenario(fetch("/go", mode="same-origin"), JUMP, PAGE),
@@ -118,12 +148,14 @@ ANSWERS = {
     "type/nosniff-absent": scenario(load("style"), [rule(200, [["X-Content-Type-Options", "nosniff"]])]),
     "type/nosniff": scenario(load("script"), [rule(200, [["X-Content-Type-Options", "nosniff"], ["Content-Type", "text/plain"]])]),
     "integrity/opaque": scenario(load("script", integrity="sha256-" + DIGEST["sha256"]), [rule(200, body="abc")]),
+    "integrity/opaqueredirect": scenario(fetch("/go", redirect="manual", integrity="sha256-" + DIGEST["sha256"]), JUMP, PAGE),
     "integrity/no-body": answered(OK, status=204, integrity="sha256-" + DIGEST["sha256"]),
     "integrity/incomplete": answered(OK, ["Content-Length", "9"], body="abc", integrity="sha256-" + DIGEST["sha256"]),
+    "integrity/toobig": scenario(fetch(integrity="sha256-" + DIGEST["sha256"]), [rule(200, [OK], "abc")], body_limit=2),
     "integrity/unpadded": answered(OK, body="abc", integrity="sha256-" + DIGEST["sha256"].rstrip("=")),
     "integrity/stale-strongest": answered(OK, body="abc", integrity="sha256-%s sha384-AAAA" % DIGEST["sha256"]),
     "integrity/mismatch": answered(OK, body="abd", integrity="sha256-" + DIGEST["sha256"]),
-    "body/coded": answered(OK, ["Content-Encoding", "gzip"], body="abc"),
+    "no-verdict/coded": answered(OK, ["Content-Encoding", "gzip"], body="abc"),
     "head/no-server": scenario(fetch(), [rule()], "https://api.test:8443"),
     "head/nothing": raw(""),
     "head/tls": raw("\x15\x03\x01 "),
@@ -155,8 +187,14 @@ SEEN = {
     "seen/opaqueredirect": scenario(fetch("/go", redirect="manual"), JUMP, PAGE),
     "seen/body-cut": answered(OK, ["Content-Length", "9"], body="abc"),
     "seen/body-toobig": scenario(fetch(), [rule(200, [OK], "abc")], body_limit=2),
+    "seen/exposed-list": answered(OK, ["Access-Control-Expose-Headers", "X-Page X-Total"], ["X-Total", "4"]),
     "seen/star-with-credentials": answered(OK, TRUE, ["Access-Control-Expose-Headers", "*"], ["X-Total", "4"], **INCLUDE),
     "seen/hidden-headers": answered(OK, ["X-Total", "4"]),
+}
+# ways that are told of other policies alone: of URLs that this engine does not load, and of those that only report
+REPORTED = {
+    "policy/data-script": policed("script-src 'self'", load("script", "data:text/javascript,a")),
+    "policy/before-upgrade": scenario(load("image", "http://img.test/x"), headers=[[POLICY + "-Report-Only", "img-src https:"]]),
 }
 # what bin/ask alone comes to, by connections of its own: commands/check_ask reaches each
 DIRECT = {"link/tls-port", "link/certificate", "link/no-tls"}
@@ -180,6 +218,6 @@ NET = {
 
 def scripted():
     """Each way's name, its scenario as a text, and the name of the fetch."""
-    for name, given in {**CORS, **PREFLIGHTS, **BEFORE_SENDING, **ANSWERS, **REQUESTS, **SEEN}.items():
+    for name, given in {**CORS, **PREFLIGHTS, **UNLOADED, **BEFORE_SENDING, **POLICIES, **ANSWERS, **REQUESTS, **SEEN}.items():
         data, which = given if isinstance(given, tuple) else (given, None)
         yield name, json.dumps(data), which

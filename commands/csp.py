@@ -1,18 +1,54 @@
-"""A document's policies, as far as it takes to say which directive decided."""
+"""A document's policies as CSP 3 has them: which directive decides, whether its words let a request pass, and which word
+comes near to one that would. docs/rules/csp.md has the rules. They serve for what is said; the engine decides."""
+import re
+from collections import namedtuple
+from urllib.parse import unquote_to_bytes, urlsplit
+
+from commands.urls import is_address
+
 FALLBACK = {"style-src-elem": ["style-src-elem", "style-src", "default-src"],
             "script-src-elem": ["script-src-elem", "script-src", "default-src"]}
+EFFECTIVE = {"fetch": "connect-src", "image": "img-src", "audio": "media-src", "video": "media-src", "font": "font-src",
+             "manifest": "manifest-src", "style": "style-src-elem", "script": "script-src-elem"}
+HEADERS = {"content-security-policy": True, "content-security-policy-report-only": False}  # whether it is enforced
+KEYWORDS = ("self", "none", "unsafe-inline", "unsafe-eval", "strict-dynamic", "unsafe-hashes", "report-sample",
+            "wasm-unsafe-eval")
+HASH = r"sha(?:256|384|512)-[A-Za-z0-9+/_-]+={0,2}"
+QUOTED = re.compile("(?:%s|nonce-[A-Za-z0-9+/_-]+={0,2}|%s)" % ("|".join(KEYWORDS), HASH), re.I)
+SCHEME = re.compile(r"([A-Za-z][A-Za-z0-9+.-]*):")
+HOST = re.compile(r"(?:([A-Za-z][A-Za-z0-9+.-]*)://)?"
+                  r"(\*|(?:\*\.)?[A-Za-z0-9-]+(?:\.[A-Za-z0-9-]+)*\.?)(?::([0-9]+|\*))?"
+                  r"(/(?!/)(?:[A-Za-z0-9/\-._~!$&'()*+=:@]|%[0-9A-Fa-f]{2})*)?")
+PORTS = {"http": 80, "https": 443}
+SCHEMES = ("http", "https", "ws", "wss", "data", "blob")
+# What a scheme of a word matches besides itself.
+WIDER = {"http": ("https",), "ws": ("wss", "http", "https"), "wss": ("https",)}
+
+# What a policy is asked of: the URL, the page's, the kind (fetch, or that of a load), the element's nonce and integrity
+# text, whether a parser inserted it, and whether a redirect led here.
+Asked = namedtuple("Asked", "url page kind nonce integrity parser redirected")
+# A word that would match, were it written otherwise: what is wrong with it, the word, and how to write it.
+Near = namedtuple("Near", "fault word written")
 
 
-def policies(headers):
-    """All policies, numbered as docs/rules/csp.md does: each a map from a directive's name to its words."""
+# ---- policies
+
+def numbered(headers):
+    """All policies, numbered as docs/rules/csp.md does: of each whether it is enforced, and its directives."""
     found = []
     for name, value in headers:
-        if name.lower() in ("content-security-policy", "content-security-policy-report-only"):
-            found += filter(None, map(directives, value.split(",")))
+        if name.lower() in HEADERS:
+            found += [(HEADERS[name.lower()], policy) for policy in map(directives, value.split(",")) if policy]
     return found
 
 
+def policies(headers):
+    """The same without whether they are enforced."""
+    return [policy for _, policy in numbered(headers)]
+
+
 def directives(text):
+    """A map from a directive's name to its words."""
     policy = {}
     for part in text.split(";"):
         words = part.split()
@@ -21,9 +57,167 @@ def directives(text):
     return policy
 
 
+def deciders(effective):
+    """The directives that may decide for an effective one, the nearest first."""
+    return FALLBACK.get(effective, [effective, "default-src"])
+
+
 def deciding(policy, effective):
     """The directive of a policy that decides for an effective one, and its words."""
-    for name in FALLBACK.get(effective, [effective, "default-src"]):
-        if name in policy:
-            return name, policy[name]
-    return effective, []
+    return next(((name, policy[name]) for name in deciders(effective) if name in policy), (effective, []))
+
+
+def written_for(name, effective):
+    """The directive that is to be written for an effective one, where the one of this name decided: no wider one."""
+    return name if name != "default-src" else effective.replace("-elem", "")
+
+
+# ---- whether words let a request pass
+
+def passes(words, asked):
+    """The check of a request (docs/rules/csp.md)."""
+    lowered = [word.lower() for word in words]
+    if asked.kind in ("script", "style") and asked.nonce and asked.nonce in nonces(words):
+        return True
+    tokens = digests(asked.integrity) if asked.kind == "script" else []
+    if tokens and all(token in hashes(words) for token in tokens):
+        return True
+    if asked.kind == "script" and "'strict-dynamic'" in lowered:
+        return not asked.parser
+    return any(matches(word, asked) for word in words)
+
+
+def nonces(words):
+    return [word[7:-1] for word in words if word.lower().startswith("'nonce-") and word.endswith("'")]
+
+
+def hashes(words):
+    return [word[1:7].lower() + word[7:-1] for word in words if re.fullmatch("'%s'" % HASH, word, re.I)]
+
+
+def digests(integrity):
+    """The valid tokens of an integrity text."""
+    return [token for token in (word.partition("?")[0] for word in integrity.split()) if re.fullmatch(HASH, token)]
+
+
+def matches(word, asked):
+    """Whether a word matches the URL ("does url match expression in origin with redirect count")."""
+    url, page = parts_of(asked.url), parts_of(asked.page)
+    scheme, host = SCHEME.fullmatch(word), HOST.fullmatch(word)
+    if word == "*":
+        return url.scheme in PORTS
+    if scheme:
+        return matches_scheme(scheme.group(1), url.scheme)
+    if word.lower() == "'self'":
+        return url.scheme in PORTS and matches_self(url, page)
+    return host is not None and url.scheme in PORTS and matches_host(host.groups(), url, page, asked.redirected)
+
+
+def parts_of(text):
+    """The parts of a URL; empty ones of a text that is none. That of a WebSocket is asked for over http or https
+    (Fetch, "establish a WebSocket connection")."""
+    try:
+        url = urlsplit(re.sub("^ws(s?):", r"http\1:", text.strip(), flags=re.I))
+        _ = url.port  # which may be no number
+    except ValueError:
+        return urlsplit("")
+    return url
+
+
+def matches_scheme(word, scheme):
+    return scheme == word.lower() or scheme in WIDER.get(word.lower(), ())
+
+
+def port_of(url):
+    """The port that a URL names, where it is not that of its scheme."""
+    return None if url.port == PORTS.get(url.scheme) else url.port
+
+
+def matches_self(url, page):
+    if url.hostname != page.hostname or not (url.scheme == page.scheme or url.scheme == "https"):
+        return False
+    return (url.port or PORTS[url.scheme]) == (page.port or PORTS[page.scheme]) or port_of(url) == port_of(page) is None
+
+
+def matches_host(parts, url, page, redirected):
+    scheme, host, port, path = parts
+    if not matches_scheme(scheme or page.scheme, url.scheme) or not url.hostname:
+        return False
+    host, name = host.lower(), url.hostname.lower()
+    if is_address(name):  # no word with a host matches one
+        return False
+    if not (host in ("*", name) or (host.startswith("*.") and name.endswith(host[1:]))):
+        return False
+    if port != "*" and (port_of(url) is not None if port is None else port != str(url.port or PORTS[url.scheme])):
+        return False
+    return path is None or redirected or matches_path(path, url.path or "/")
+
+
+def matches_path(path, own):
+    pieces, found = ([unquote_to_bytes(piece) for piece in text.split("/")] for text in (path, own))
+    if path.endswith("/"):
+        return len(pieces) <= len(found) and pieces[:-1] == found[:len(pieces) - 1]
+    return pieces == found
+
+
+# ---- words that come near
+
+def unquoted(words):
+    """Words that lack their quotes, or have others, each with how it is written."""
+    return [(word, "'%s'" % word.strip("'\"`")) for word in words
+            if QUOTED.fullmatch(word.strip("'\"`")) and not re.fullmatch("'[^'\"`]*'", word)]
+
+
+def near(words, asked):
+    """The first word that would match, were it written otherwise, by the likelier mistake; None where there is none."""
+    for fault, rewritten in REWRITTEN:
+        for word in words:
+            parts = HOST.fullmatch(word)
+            written = rewritten(*parts.groups(), parts_of(asked.url)) if parts else None
+            if written is not None and matches(written, asked):
+                return Near(fault, word, written)
+    return None
+
+
+def source(scheme, host, port, path):
+    """The word of these parts."""
+    return "".join([scheme + "://" if scheme else "", host, ":" + port if port else "", path or ""])
+
+
+def with_colon(scheme, host, port, path, url):
+    """The name of a scheme without its colon is a host."""
+    return host + ":" if host.lower() in SCHEMES and not (scheme or port or path) else None
+
+
+def without_star(scheme, host, port, path, url):
+    """`/*` is no wildcard: a path that ends in a slash matches all below it."""
+    return source(scheme, host, port, path.rstrip("*")) if path and path.endswith("*") else None
+
+
+def with_other_slash(scheme, host, port, path, url):
+    """A path matches itself, or what is below it where it ends in a slash."""
+    if not path or path == "/":
+        return None
+    return source(scheme, host, port, path[:-1] if path.endswith("/") else path + "/")
+
+
+def with_port(scheme, host, port, path, url):
+    return source(scheme, host, str(url.port) if port_of(url) else None, path)
+
+
+def with_scheme(scheme, host, port, path, url):
+    return source(url.scheme, host, port, path)
+
+
+def with_host(scheme, host, port, path, url):
+    """`*.` in front matches the names below a domain, and not the domain itself."""
+    name = (url.hostname or "").lower()
+    bare = host.lower()[2:] if host.startswith("*.") else host.lower()
+    if name == re.sub(r"^www\.", "", bare):
+        return source(scheme, name, port, path)
+    return source(scheme, "*." + bare, port, path) if name.endswith("." + bare) and "." in bare else None
+
+
+# The likelier mistakes first.
+REWRITTEN = (("colon", with_colon), ("path-star", without_star), ("path-slash", with_other_slash), ("port", with_port),
+             ("scheme", with_scheme), ("host", with_host))

@@ -1,19 +1,20 @@
 """Why a fetch came to what it came: one table of ways, the first that holds of a case.
 
 Each network error, each fault and each result that lets a script see less than was sent has its ways, and each way the
-condition that failed, the header that decided, what to change, and the rule's page. In the texts `c` is the case
-(case.py). `commands/check` shows that each way is reached and that no result of any stored play is without one."""
+condition that failed, the header that decided, what to change, the rule's page, and the changes as data (changes.py), of
+which the text is made where it says {change}. In the texts `c` is the case (case.py). `commands/check` shows that each way
+is reached and that no result of any stored play is without one, and `commands/check_advice` that each change helps."""
 import difflib
 import re
 from collections import namedtuple
 
-# `results` are numbers of network errors; a fault's has an f before it, and a result that is none of both an s.
-Way = namedtuple("Way", "name results holds condition header change rule")
+from commands import changes, csp, edits
+from commands.needs import ALLOW_CREDENTIALS, ALLOW_HEADERS, ALLOW_METHODS, ALLOW_ORIGIN, EXPOSE_HEADERS, TOKEN
+from commands.urls import scheme_of
 
-ALLOW_ORIGIN = "Access-Control-Allow-Origin"
-ALLOW_CREDENTIALS = "Access-Control-Allow-Credentials"
-ALLOW_METHODS = "Access-Control-Allow-Methods"
-ALLOW_HEADERS = "Access-Control-Allow-Headers"
+# `results` are numbers of network errors; a fault's has an f before it, and a result that is none of both an s.
+Way = namedtuple("Way", "name results holds condition header change rule changes", defaults=[changes.nothing])
+
 CORS = "cors.md#the-cors-check"
 PREFLIGHT = "preflight.md#the-six-checks-of-the-answer"
 REDIRECTS = "redirects.md#the-ten-steps"
@@ -21,6 +22,13 @@ BODY = "final-checks.md#4-to-6-the-body"
 TYPES = "final-checks.md#2-and-3-types"
 FAULTS = "requests.md#faults"
 HEAD = "answers.md#the-head"
+MIXED = "mixed-content.md#mixed-content-mixed-content-section-4"
+POLICY = "csp.md#check-of-a-request"
+WORDS = "csp.md#match-does-url-match-expression-in-origin-with-redirect-count"
+FETCH = "fetch.md#main-fetch"
+EXPOSED = "responses.md#exposed-names"
+# of a preflight that is refused all that its answers need is said
+PREFLIGHTED = ("7", "8", "9", "10", "11")
 
 
 def always(c):
@@ -31,203 +39,283 @@ CORS_CHECK = [
     Way("cors/no-rule", "7 12", lambda c: c.has_no_rule,
         "the scenario's server {c.request.origin} has no rule for {c.request.method} {c.request.target}, so the answer is "
         "an empty 404 without CORS headers; {c.nearest_rule}", "",
-        "add a rule for this request, or ask for a path that has one", CORS),
+        "add a rule for this request: {change}; or ask for a path that has one", CORS, changes.no_rule),
     Way("cors/tls-port-asked-in-plain", "7 12",
-        lambda c: c.is_net and not c.is_direct and c.status == 400 and c.request.origin.startswith("https:") and c.allowed_origin is None,
+        lambda c: (c.is_net and not c.is_direct and c.status == 400 and c.request.origin.startswith("https:")
+                   and c.allowed_origin is None),
         "the answer is 400, as a TLS port gives it when it is asked in plain; `net` speaks no TLS, and {c.route} was asked "
         "in plain", "", "let the route lead to the server's plain port, or to a side process that ends TLS",
         "../check-your-server.md#what-the-scenario-says"),
+    Way("cors/origin-null", "7 12", lambda c: c.origin == "null",
+        "the request says `Origin: null`, since a redirect led it from another origin to this one, and the answer "
+        "{c.allows}", ALLOW_ORIGIN, "{change}; or redirect within one origin", "redirects.md#origin-null", changes.origin_null),
+    Way("cors/preflight-redirect", "7", lambda c: c.is_redirect,
+        "the answer to the preflight redirects ({c.status}) to {c.whereto}, and preflights are not followed, whatever its "
+        "headers are", "Location", "{change}; look for https, a slash at the end, or a login", PREFLIGHT,
+        changes.next_url_or_cors),
     Way("cors/preflight-login", "7", lambda c: c.allowed_origin is None and c.status in (401, 403, 407),
         "the answer to the preflight is {c.status}, without CORS headers: a preflight never carries a cookie or Authorization",
-        ALLOW_ORIGIN, "answer OPTIONS before the login is asked for", PREFLIGHT),
+        ALLOW_ORIGIN, "{change}, before the login is asked for", PREFLIGHT, changes.cors),
     Way("cors/preflight-not-handled", "7", lambda c: c.allowed_origin is None and c.status in (404, 405, 501),
         "the answer to the preflight is {c.status}, without CORS headers: the server does not answer OPTIONS at "
-        "{c.request.target}", ALLOW_ORIGIN, "answer OPTIONS at this very URL", PREFLIGHT),
-    Way("cors/absent-on-error", "7 12", lambda c: c.allowed_origin is None and c.status >= 400,
+        "{c.request.target}", ALLOW_ORIGIN, "{change}", PREFLIGHT, changes.cors),
+    Way("cors/preflight-status", "7", lambda c: c.allowed_origin is None and not 200 <= c.status <= 299,
+        "the answer to the preflight is {c.status}, which is none of 200 to 299, and has no Access-Control-Allow-Origin",
+        ALLOW_ORIGIN, "{change}; then look why it is {c.status}", PREFLIGHT, changes.cors),
+    Way("cors/absent-on-error", "12", lambda c: c.allowed_origin is None and c.status >= 400,
         "the answer is {c.status}, and has no Access-Control-Allow-Origin", ALLOW_ORIGIN,
-        "send {c.wanted} with errors too: many servers, logins and proxies leave CORS headers out there; then look why it "
-        "is {c.status}", CORS),
-    Way("cors/absent-on-redirect", "7 12", lambda c: c.allowed_origin is None and c.is_redirect,
-        "the answer redirects ({c.status}) to {c.location}, and has no Access-Control-Allow-Origin", ALLOW_ORIGIN,
-        "ask for the last URL itself; or send {c.wanted} with the redirect too: each answer of a chain is checked",
-        "redirects.md"),
+        "{change} with errors too: many servers, logins and proxies leave CORS headers out there; then look why it "
+        "is {c.status}", CORS, changes.cors),
+    Way("cors/absent-on-redirect", "12", lambda c: c.allowed_origin is None and c.is_redirect,
+        "the answer redirects ({c.status}) to {c.whereto}, and has no Access-Control-Allow-Origin", ALLOW_ORIGIN,
+        "{change}; each answer of a chain is checked", "redirects.md", changes.cors_or_next_url),
     Way("cors/absent", "7 12", lambda c: c.allowed_origin is None,
-        "the answer has no Access-Control-Allow-Origin", ALLOW_ORIGIN, "send {c.wanted}", CORS),
+        "the answer has no Access-Control-Allow-Origin", ALLOW_ORIGIN, "{change}", CORS, changes.cors),
     Way("cors/several", "7 12", lambda c: "," in c.allowed_origin,
         "the answer has several values of Access-Control-Allow-Origin, which are joined to one that is no origin",
-        ALLOW_ORIGIN, "send it once, with one value: {c.wanted}; look for a proxy that adds its own", CORS),
+        ALLOW_ORIGIN, "{change}; once, with one value: look for a proxy that adds its own", CORS, changes.cors),
     Way("cors/star-with-credentials", "7 12", lambda c: c.allowed_origin == "*" and c.includes,
         "Access-Control-Allow-Origin is `*`, which passes no request with credentials", ALLOW_ORIGIN,
-        "send {c.wanted}; and `Vary: Origin`, where several origins ask", CORS),
-    Way("cors/origin-null", "7 12", lambda c: c.origin == "null" and c.allowed_origin != "null",
-        "the request says `Origin: null`, since a redirect led it from another origin to this one, and the answer allows "
-        "`{c.allowed_origin}`", ALLOW_ORIGIN,
-        "let the page ask for {c.url} itself, or redirect within one origin; `*` passes it where no credentials go along",
-        "redirects.md#origin-null"),
+        "{change}; and `Vary: Origin`, where several origins ask", CORS, changes.cors),
     Way("cors/written-otherwise", "7 12", lambda c: c.allowed_origin != c.origin and c.is_alike(),
         "`{c.allowed_origin}` is not `{c.origin}`, byte for byte, as the request says its origin", ALLOW_ORIGIN,
-        "send {c.wanted}: scheme, ://, host, and the port where it is not the scheme's default; no slash, no blank, no "
-        "quotes", CORS),
+        "{change}; an origin is scheme, ://, host, and the port where it is not the default: no slash, no blank, no quotes",
+        CORS, changes.cors),
     Way("cors/other-origin", "7 12", lambda c: c.allowed_origin != c.origin,
         "the answer allows `{c.allowed_origin}`, and the request is of `{c.origin}`", ALLOW_ORIGIN,
-        "send {c.wanted}, where the server trusts this origin; and `Vary: Origin`, where several origins ask", CORS),
+        "{change}, where the server trusts this origin; and `Vary: Origin`, where several origins ask", CORS, changes.cors),
     Way("cors/credentials-absent", "7 12", lambda c: c.allowed_credentials is None,
         "the request has credentials, and the answer has no Access-Control-Allow-Credentials", ALLOW_CREDENTIALS,
-        "send `Access-Control-Allow-Credentials: true`; or ask without `credentials` `include`", CORS),
+        "{change}", CORS, changes.cors_or_without_credentials),
     Way("cors/credentials-not-true", "7 12", lambda c: c.allowed_credentials != "true",
         "Access-Control-Allow-Credentials is `{c.allowed_credentials}`, and not `true`", ALLOW_CREDENTIALS,
-        "send `Access-Control-Allow-Credentials: true` once, in lower case", CORS),
+        "{change}; `true` in lower case, and once", CORS, changes.cors),
 ]
 
 PREFLIGHTS = [
     Way("preflight/redirect", "8", lambda c: c.is_redirect,
-        "the answer to the preflight redirects ({c.status}) to {c.location}, and preflights are not followed", "Location",
-        "ask for the URL to which it redirects; look for https, a slash at the end, or a login", PREFLIGHT),
+        "the answer to the preflight redirects ({c.status}) to {c.whereto}, and preflights are not followed", "Location",
+        "{change}; look for https, a slash at the end, or a login", PREFLIGHT, changes.next_url_or_cors),
     Way("preflight/login", "8", lambda c: c.status in (401, 403, 407),
         "the answer to the preflight is {c.status}: a preflight never carries a cookie or Authorization", "",
-        "answer OPTIONS with 204 before the login is asked for", PREFLIGHT),
+        "{change}, before the login is asked for", PREFLIGHT, changes.cors),
     Way("preflight/no-handler", "8", lambda c: c.status in (404, 405, 501),
         "the answer to the preflight is {c.status}: the server does not answer OPTIONS at {c.request.target}", "",
-        "answer OPTIONS at this very URL with 204", PREFLIGHT),
+        "{change}", PREFLIGHT, changes.cors),
     Way("preflight/status", "8", always,
-        "the answer to the preflight is {c.status}, which is none of 200 to 299", "",
-        "answer OPTIONS at this very URL with 204", PREFLIGHT),
+        "the answer to the preflight is {c.status}, which is none of 200 to 299", "", "{change}", PREFLIGHT, changes.cors),
     Way("preflight/list", "9", lambda c: c.bad_item is not None,
         "`{c.list_item}` in {c.list_name} is no token", "{c.list_name}",
-        "put commas between the items, and no quotes, colons or blanks into one: `GET, PUT`", PREFLIGHT),
+        "{change}: commas between the items, and no quotes, colons or blanks in one", PREFLIGHT, changes.cors),
     Way("preflight/method-absent", "10", lambda c: not c.methods,
         "the answer to the preflight has no Access-Control-Allow-Methods, and {c.method} is none of GET, HEAD and POST",
-        ALLOW_METHODS, "send `Access-Control-Allow-Methods: {c.method}`", PREFLIGHT),
+        ALLOW_METHODS, "{change}", PREFLIGHT, changes.cors),
     Way("preflight/method-star-with-credentials", "10", lambda c: "*" in c.methods and c.includes,
         "Access-Control-Allow-Methods is `*`, which covers no method of a request with credentials", ALLOW_METHODS,
-        "list the method: `Access-Control-Allow-Methods: {c.method}`", PREFLIGHT),
+        "list the method: {change}", PREFLIGHT, changes.cors),
     Way("preflight/method-in-another-case", "10", lambda c: c.same_method != "",
         "Access-Control-Allow-Methods has `{c.same_method}`, and the request's method is `{c.method}`: the case counts",
-        ALLOW_METHODS, "list `{c.method}`, in this case; or have the page ask for it in capitals", PREFLIGHT),
+        ALLOW_METHODS, "{change}", PREFLIGHT, changes.method_in_another_case),
     Way("preflight/method-not-listed", "10", always,
         "Access-Control-Allow-Methods does not have {c.method}", ALLOW_METHODS,
-        "list it: `Access-Control-Allow-Methods: {c.method}`", PREFLIGHT),
+        "list it beside what is there: {change}", PREFLIGHT, changes.cors),
     Way("preflight/authorization-under-star", "11", lambda c: c.result.detail == "authorization" and "*" in c.names,
         "`*` in Access-Control-Allow-Headers does not cover Authorization", ALLOW_HEADERS,
-        "list it by its name: `Access-Control-Allow-Headers: Authorization`", PREFLIGHT),
+        "list it by its name: {change}", PREFLIGHT, changes.cors),
+    Way("preflight/user-agent", "11", lambda c: c.result.detail == "user-agent",
+        "the script sets User-Agent, as a command line of curl does, and the answer to the preflight does not list it; browsers "
+        "send their own", ALLOW_HEADERS, "{change}", PREFLIGHT, changes.without_user_agent),
     Way("preflight/header-absent", "11", lambda c: not c.names,
         "the answer to the preflight has no Access-Control-Allow-Headers, and the request has {c.result.detail}",
-        ALLOW_HEADERS, "send `Access-Control-Allow-Headers: {c.asked_headers}`", PREFLIGHT),
+        ALLOW_HEADERS, "{change}", PREFLIGHT, changes.cors),
     Way("preflight/header-star-with-credentials", "11", lambda c: "*" in c.names and c.includes,
         "Access-Control-Allow-Headers is `*`, which covers no header of a request with credentials", ALLOW_HEADERS,
-        "list the names: `Access-Control-Allow-Headers: {c.asked_headers}`", PREFLIGHT),
+        "list the names: {change}", PREFLIGHT, changes.cors),
     Way("preflight/header-not-listed", "11", always,
         "Access-Control-Allow-Headers does not have {c.result.detail}", ALLOW_HEADERS,
-        "list it: `Access-Control-Allow-Headers: {c.asked_headers}`", PREFLIGHT),
+        "list it beside what is there: {change}", PREFLIGHT, changes.cors),
 ]
 
-BEFORE_SENDING = [
+# of URLs that a browser loads by itself, or by a WebSocket
+UNLOADED = [
+    Way("no-verdict/data", "1", lambda c: c.is_unloaded and c.scheme == "data",
+        "no verdict: this engine loads no `data:` URL; a browser would, {c.policy_verdict}", "", "{c.unloaded_change}", FETCH),
+    Way("no-verdict/blob", "1", lambda c: c.is_unloaded and c.scheme == "blob",
+        "no verdict: this engine loads no `blob:` URL; a browser would, where a script of the page's origin made it, "
+        "{c.policy_verdict}", "", "{c.unloaded_change}", FETCH),
+    Way("mixed/websocket", "1", lambda c: c.is_unloaded and c.is_mixed_socket,
+        "the page is secure, and {c.url} is not: no browser opens this WebSocket", "", "{change}", MIXED,
+        changes.secure_socket),
+    Way("no-verdict/websocket", "1", lambda c: c.is_unloaded,
+        "no verdict: this engine opens no WebSocket; a browser would, by `new WebSocket`, {c.policy_verdict}", "",
+        "{c.unloaded_change}", FETCH),
+]
+
+POLICIES = [
+    Way("policy/quotes", "4", lambda c: c.unquoted_words != [],
+        "{c.policy} has `{c.directive_text}`, where `{c.unquoted_word}` lacks its quotes (`{c.unquoted_written}`), and so is "
+        "no keyword, nonce or hash", "", "{change}", "csp.md#words-section-231-source-expression", changes.put_quotes),
+    Way("policy/before-upgrade", "4", lambda c: c.is_before_upgrade,
+        "{c.policy} has `{c.directive_text}`, and is asked of {c.policy_url} as it is before any upgrade", "", "{change}",
+        "csp.md#when-a-fetch-asks-them-section-41-integration-with-fetch", changes.before_upgrade),
+    Way("policy/data-script", "4", lambda c: c.kind == "script" and scheme_of(c.policy_url) == "data",
+        "{c.policy} has `{c.directive_text}`, and a word that lets this `data:` URL pass lets every script pass that finds its way "
+        "into the page", "", "serve the script as a file; or {change}", POLICY, changes.nonce),
+    Way("policy/strict-dynamic", "4",
+        lambda c: c.kind == "script" and "'strict-dynamic'" in [word.lower() for word in c.directive[1]],
+        "{c.policy} has `{c.directive_text}`: with 'strict-dynamic' a script that a parser inserted passes by its "
+        "nonce or hash alone", "", "{change}", POLICY, changes.nonce_or_inserted),
+    Way("policy/nonce-differs", "4", lambda c: c.policy_nonces != [] and c.nonce != "",
+        "{c.policy} has `{c.directive_text}`, and the element's nonce is `{c.nonce}`", "",
+        "{change}", POLICY, changes.nonce_or_source),
+    Way("policy/nonce-absent", "4", lambda c: c.policy_nonces != [],
+        "{c.policy} has `{c.directive_text}`, and the element has no nonce", "", "{change}", POLICY, changes.nonce_or_source),
+    Way("policy/hash-absent", "4", lambda c: c.kind == "script" and csp.hashes(c.directive[1]) != []
+        and csp.digests(c.command.options["integrity"]) != [],
+        "{c.policy} has `{c.directive_text}`, and a digest of the element's integrity text is not among its hashes", "",
+        "{change}", POLICY, changes.add_hashes),
+    Way("policy/nothing-allowed", "4", lambda c: [word.lower() for word in c.directive[1]] in ([], ["'none'"]),
+        "{c.policy} has `{c.directive_text}`, which lets nothing pass", "", "{change}", POLICY, changes.add_source),
+    Way("policy/ip-address", "4", lambda c: c.is_policy_address,
+        "{c.policy} has `{c.directive_text}`, and the host of {c.policy_url} is an IP address, which no word with a host "
+        "matches", "",
+        "give the server a name; or {change}", WORDS, changes.add_source),
+    Way("policy/colon", "4", lambda c: c.near_fault == "colon",
+        "{c.policy} has `{c.directive_text}`, where `{c.near_text}` lacks its colon (`{c.near_written}`), and so is the "
+        "name of a host", "", "{change}", WORDS, changes.rewrite),
+    Way("policy/path-star", "4", lambda c: c.near_fault == "path-star",
+        "{c.policy} has `{c.near_text}`, whose path is no pattern: `*` stands for itself there, and a path that ends in a "
+        "slash for all below it", "", "{change}", WORDS, changes.rewrite),
+    Way("policy/path-slash", "4", lambda c: c.near_fault == "path-slash",
+        "{c.policy} has `{c.near_text}`, and not `{c.near_written}`, as {c.policy_url} wants it: a path matches itself "
+        "alone, and one that ends in a slash what is below it", "", "{change}", WORDS, changes.rewrite),
+    Way("policy/port", "4", lambda c: c.near_fault == "port",
+        "{c.policy} has `{c.near_text}`, and {c.policy_url} has another port: a word without one stands for the default "
+        "one", "",
+        "{change}", WORDS, changes.rewrite),
+    Way("policy/scheme", "4", lambda c: c.near_fault == "scheme",
+        "{c.policy} has `{c.near_text}`, and the scheme of {c.policy_url} is another: http matches https too, and https "
+        "itself alone",
+        "", "{change}", WORDS, changes.secure_or_rewrite),
+    Way("policy/host", "4", lambda c: c.near_fault == "host",
+        "{c.policy} has `{c.near_text}`, and not `{c.near_written}`, as {c.policy_url} wants it: a host matches itself "
+        "alone, and one behind `*.` what is below it", "", "{change}", WORDS, changes.rewrite),
+    Way("policy/after-redirect", "4", lambda c: c.violated.redirected,
+        "{c.policy} has `{c.directive_text}`, and no word of it matches {c.policy_url}, where the redirect leads", "",
+        "{change}; the path of a word does not count after a redirect", POLICY, changes.add_source),
+    Way("policy/no-word", "4", always,
+        "{c.policy} has `{c.directive_text}`, and no word of it matches {c.policy_url}", "", "{change}", POLICY,
+        changes.add_source),
+]
+
+BEFORE_SENDING = UNLOADED + [
     Way("scheme/host-taken-for-it", "1", lambda c: re.match(r"\s*[A-Za-z0-9.-]+:\d+", c.command.url) is not None,
         "`{c.command.url}` is read as a URL of the scheme `{c.scheme}`: without // the host stands where a scheme does", "",
-        "write the scheme: http://{c.command.url}", "fetch.md#main-fetch"),
-    Way("scheme/other", "1", always, "the URL's scheme is `{c.scheme}`, and neither http nor https", "",
-        "ask for an http or https URL", "fetch.md#main-fetch"),
+        "write the scheme: {change}", FETCH, changes.with_scheme),
+    Way("scheme/other", "1", always, "the URL's scheme is `{c.scheme}`, and neither http nor https: a browser refuses it too", "",
+        "ask for an http or https URL", FETCH),
     Way("port/bad", "2", always, "browsers block the port {c.port} of {c.url}{c.where}", "",
-        "let the server listen at another port, such as 443, 8080 or 8443",
-        "mixed-content.md#bad-ports-fetch-section-29-port-blocking"),
+        "let the server listen at another port, such as 443, 8080 or 8443: {change}",
+        "mixed-content.md#bad-ports-fetch-section-29-port-blocking", changes.other_port),
+    Way("mixed/ip-address", "3", lambda c: c.is_upgradeable_address,
+        "the page is secure, and {c.url}{c.where} is not: images, audio and video become https by themselves, but not where "
+        "the host is an IP address", "", "give the server a name; or {change}", MIXED, changes.ask_secure),
     Way("mixed/top", "3", lambda c: c.is_embedded and not c.page_origin.startswith("https:"),
         "the page at the top, {c.top_origin}, is secure, and {c.url}{c.where} is not: what is embedded may not be laxer", "",
-        "serve {c.url} over https", "mixed-content.md#mixed-content-mixed-content-section-4"),
+        "{change}", MIXED, changes.ask_secure),
     Way("mixed/page", "3", always,
         "the page {c.page_origin} is secure, and {c.url}{c.where} is not, so nothing is sent to it", "",
-        "ask for it over https; that the host is a known one (HSTS) comes too late for this",
-        "mixed-content.md#mixed-content-mixed-content-section-4"),
-    Way("policy/after-redirect", "4", lambda c: c.is_redirected,
-        "policy {c.policy_number} has `{c.directive_text}`, and no word of it matches {c.url}, where the redirect leads", "",
-        "add {c.url_origin} to {c.directive[0]} of this policy of the page; the path of a word does not count after a "
-        "redirect", "csp.md#check-of-a-request"),
-    Way("policy/strict-dynamic", "4", lambda c: "'strict-dynamic'" in [word.lower() for word in c.directive[1]],
-        "policy {c.policy_number} has `{c.directive_text}`: with 'strict-dynamic' a script that a parser inserted passes by its "
-        "nonce or hash alone", "", "give the script the policy's nonce; or let a script that has one insert it",
-        "csp.md#check-of-a-request"),
-    Way("policy/nothing-allowed", "4", lambda c: [word.lower() for word in c.directive[1]] in ([], ["'none'"]),
-        "policy {c.policy_number} has `{c.directive_text}`, which lets nothing pass", "",
-        "write `{c.violated.directive} {c.url_origin}` into this policy of the page", "csp.md#check-of-a-request"),
-    Way("policy/no-word", "4", always,
-        "policy {c.policy_number} has `{c.directive_text}`, and no word of it matches {c.url}", "",
-        "add {c.url_origin} to {c.directive[0]} of this policy of the page", "csp.md#check-of-a-request"),
+        "{change}; that the host is a known one (HSTS) comes too late for this", MIXED, changes.ask_secure),
+    *POLICIES,
     Way("same-origin/known-host", "5", lambda c: c.is_known_host and not c.is_redirected,
         "the host is a known one (HSTS), so the URL becomes https, which is another origin than {c.page_origin}; and the mode "
-        "is same-origin", "", "serve the page over https, too", "fetch.md#main-fetch"),
+        "is same-origin", "", "{change}", FETCH, changes.secure_page),
     Way("same-origin/redirect", "5", lambda c: c.is_redirected,
         "the mode is same-origin, and the redirect leads to another origin, {c.url_origin}", "Location",
-        "redirect within {c.page_origin}; or ask in mode cors", "fetch.md#main-fetch"),
+        "{change}; in mode cors the server sends its CORS headers", FETCH, changes.redirect_within),
     Way("same-origin/other", "5", always,
         "the mode is same-origin, and {c.url} is of another origin than {c.page_origin}", "",
-        "ask in mode cors, and have the server send its CORS headers", "fetch.md#main-fetch"),
+        "{change}, and have the server send its CORS headers", FETCH, changes.mode_cors),
     Way("no-cors/redirect-mode", "6", always,
         "the mode is no-cors, {c.url}{c.where} is of another origin, and the redirect mode is "
-        "`{c.command.options[redirect]}`, not follow", "", "ask with `redirect` `follow`, or in mode cors", "redirects.md"),
+        "`{c.command.options[redirect]}`, not follow", "", "{change}", "redirects.md", changes.follow_or_cors),
 ]
 
 ANSWERS = [
     Way("corp/same-origin", "13", lambda c: c.get("Cross-Origin-Resource-Policy") == "same-origin",
         "Cross-Origin-Resource-Policy is `same-origin`, and {c.request.origin} is another origin than {c.page_origin}",
-        "Cross-Origin-Resource-Policy", "send `cross-origin`, or `same-site` for pages of the same site; or ask in mode cors",
-        "cors.md#cross-origin-resource-policy"),
+        "Cross-Origin-Resource-Policy", "{change}", "cors.md#cross-origin-resource-policy", changes.resource_policy),
     Way("corp/same-site-scheme", "13", lambda c: c.page_origin.startswith("http:") and c.request.origin.startswith("https:")
         and c.is_same_site(),
         "Cross-Origin-Resource-Policy is `same-site`, and the page is not of https while {c.request.origin} is",
-        "Cross-Origin-Resource-Policy", "serve the page over https; or send `cross-origin`",
-        "cors.md#cross-origin-resource-policy"),
+        "Cross-Origin-Resource-Policy", "{change}", "cors.md#cross-origin-resource-policy",
+        changes.resource_policy_or_secure_page),
     Way("corp/same-site", "13", always,
         "Cross-Origin-Resource-Policy is `same-site`, and {c.request.origin} is of another site than {c.page_origin}",
-        "Cross-Origin-Resource-Policy", "send `cross-origin`; or ask in mode cors", "cors.md#cross-origin-resource-policy"),
+        "Cross-Origin-Resource-Policy", "{change}", "cors.md#cross-origin-resource-policy", changes.resource_policy),
     Way("redirect/mode-error", "14", always,
-        "the answer redirects ({c.status}) to {c.location}, and the redirect mode is error", "Location",
-        "ask for that URL itself, or with `redirect` `follow`", "redirects.md"),
+        "the answer redirects ({c.status}) to {c.whereto}, and the redirect mode is error", "Location", "{change}", "redirects.md",
+        changes.follow_or_next_url),
     Way("redirect/two-locations", "15", lambda c: len(c.head.values("Location")) > 1,
-        "the answer has Location twice", "Location", "send it once: not by the program and by the proxy", REDIRECTS),
+        "the answer has Location twice", "Location", "{change}, once: not by the program and by the proxy", REDIRECTS,
+        changes.location(changes.first_location)),
     Way("redirect/long-location", "15", lambda c: len(c.location or "") > 8000,
         "the Location gives a URL of more than 8,192 bytes", "", "send a shorter one", REDIRECTS),
     Way("redirect/no-url", "15", always, "the Location `{c.location}` gives no URL", "Location",
         "send a URL, whole or relative, in UTF-8", REDIRECTS),
-    Way("redirect/scheme", "16", always, "the redirect leads to `{c.location}`, which is neither http nor https", "Location",
+    Way("redirect/scheme", "16", always,
+        "the redirect leads to `{c.location}`, which is neither http nor https: browsers do not follow it either", "Location",
         "lead to an http or https URL: others are not followed", REDIRECTS),
     Way("redirect/loop", "17", lambda c: len({c.whole(request) for request, _ in c.chain}) < len(c.chain),
         "twenty redirects were followed, and the chain comes back to where it was", "Location",
         "look for a loop: a login that waits for a cookie which is never sent, http and https that lead to each other",
         REDIRECTS),
     Way("redirect/many", "17", always, "twenty redirects were followed, and this is one more", "Location",
-        "shorten the chain", REDIRECTS),
+        "{change}; or shorten the chain", REDIRECTS, changes.next_url),
     Way("redirect/credentials", "18", always,
         "the redirect leads to another origin by a URL with a user name or a password", "Location",
-        "take them out of the Location", REDIRECTS),
+        "take them out: {change}", REDIRECTS, changes.location(changes.location_without_credentials)),
     Way("policy/response", "19", always,
-        "policy {c.policy_number} has `{c.directive_text}`, and no word of it matches the URL of the response, {c.url}", "",
-        "leave out the port 80 of the word: the URL became https", "final-checks.md#1-the-policies"),
+        "{c.policy} has `{c.directive_text}`, and no word of it matches the URL of the response, {c.policy_url}", "",
+        "leave out the port 80 of the word, since the URL became https: {change}", "final-checks.md#1-the-policies",
+        changes.without_port),
     Way("type/script", "20", always, "the type of the answer is `{c.essence}`, which no script may have", "Content-Type",
-        "send `Content-Type: text/javascript`", TYPES),
+        "{change}", TYPES, changes.header("Content-Type", "text/javascript")),
     Way("type/nosniff-absent", "21", lambda c: not c.essence,
-        "the answer says `nosniff`, and has no type", "Content-Type", "send `Content-Type: {c.right_type}`", TYPES),
+        "the answer says `nosniff`, and has no type", "Content-Type", "{change}", TYPES,
+        changes.header("Content-Type", lambda c: c.right_type)),
     Way("type/nosniff", "21", always,
         "the answer says `nosniff`, and its type is `{c.essence}`, which a {c.kind} may not have", "Content-Type",
-        "send `Content-Type: {c.right_type}` once: of several the last counts", TYPES),
+        "{change} once: of several the last counts", TYPES, changes.header("Content-Type", lambda c: c.right_type)),
     Way("integrity/opaque", "22", lambda c: c.is_opaque,
         "the response is opaque, since it is of another origin and the mode is no-cors: there is no body to match", "",
-        "add `crossorigin` to the element, or ask in mode cors; and have the server send its CORS headers", BODY),
+        "{change}", BODY, changes.in_cors),
+    Way("integrity/opaqueredirect", "22", lambda c: c.is_redirect and c.command.options["redirect"] == "manual",
+        "the answer redirects ({c.status}), and the redirect mode is manual: there is no body to match", "Location", "{change}",
+        BODY, changes.follow),
     Way("integrity/no-body", "22", lambda c: not c.has_body,
         "an answer with the status {c.status} to {c.request.method} has no body that could match", "",
-        "send the body with 200; or leave the integrity text out", BODY),
+        "{change}", BODY, changes.body_or_no_integrity),
     Way("integrity/incomplete", "22", lambda c: c.is_cut,
-        "the body did not come whole", "Content-Length", "send all of it, and its right length", BODY),
+        "the body did not come whole", "Content-Length", "send all of it, and its right length", BODY, changes.right_length),
+    Way("integrity/toobig", "22", lambda c: c.is_too_big,
+        "the body is longer than the {c.body_limit} bytes that are read here, so no digest was made", "",
+        "set `body_limit`, in format 2; a browser has no such limit", "answers.md#the-body", changes.greater_limit),
     Way("integrity/unpadded", "22", lambda c: any(c.digest(c.strongest).rstrip("=") == value for value in
                                                  c.digests.get(c.strongest, [])),
-        "the {c.strongest} of the integrity text has lost its padding", "", "write it whole: `{c.right_digest}`",
-        "integrity.md"),
+        "the {c.strongest} of the integrity text has lost its padding", "", "{change}",
+        "integrity.md", changes.integrity),
     Way("integrity/stale-strongest", "22", lambda c: any(c.digest(name) in values for name, values in c.digests.items()),
         "a weaker digest of the integrity text matches, and the {c.strongest} does not: the strongest alone counts", "",
-        "make the {c.strongest} anew: `{c.right_digest}`", "integrity.md"),
+        "{change}", "integrity.md", changes.integrity),
     Way("integrity/mismatch", "22", always,
-        "the body that came is not the one of the integrity text", "", "make the digest anew of the bytes as they are sent: "
-        "`{c.right_digest}`", BODY),
-    Way("body/coded", "23", always, "the body is coded, and this engine decodes none: requests say "
-        "`Accept-Encoding: identity`", "Content-Encoding", "send it uncoded to such requests", BODY),
+        "the body that came is not the one of the integrity text", "",
+        "make the digest anew of the bytes as they are sent: {change}", BODY, changes.integrity),
+    Way("no-verdict/coded", "23", always,
+        "no verdict on the body: it is coded, and this engine decodes none (requests say `Accept-Encoding: identity`); a "
+        "browser would, and CORS, policies and types let it", "Content-Encoding",
+        "for a verdict here send the body uncoded, and {change}; a browser needs no change", BODY,
+        changes.uncoded),
 ]
 
 # of connections that bin/ask makes itself
@@ -267,24 +355,24 @@ LINKS = [
         "look into the server's log: it ended, or reset the connection", "../check-your-server.md#how-to-read-what-it-prints"),
     Way("head/no-server", "25", lambda c: not c.is_net and c.answer.server is None,
         "the scenario has no server {c.request.origin}: {c.near_server}", "",
-        "add a server of this origin; scheme and port must be these", "../scenario.md#servers"),
+        "add a server of this origin; scheme and port must be these", "../scenario.md#servers", changes.a_server),
     Way("head/nothing", "25", lambda c: c.link_problem == "nothing", "the server closed the connection without an answer", "",
         "look into the server's log", HEAD),
     Way("head/tls", "25", lambda c: c.link_problem == "tls", "the server speaks TLS there, and was asked in plain", "",
         "let the route lead to its plain port, or to a side process that ends TLS",
         "../check-your-server.md#what-the-scenario-says"),
     Way("head/cut", "25", lambda c: c.link_problem == "cut", "the answer ends before its head does", "",
-        "end the head with an empty line", HEAD),
+        "end the head with an empty line", HEAD, changes.mended_head),
     Way("head/bad-line", "25", lambda c: c.link_problem == "bad-line",
         "a header line of the answer is none: a token, a colon right behind it, and a value without control bytes", "",
-        "mend the line; none may be folded", HEAD),
+        "mend the line; none may be folded", HEAD, changes.mended_head),
     Way("head/many-lines", "25", lambda c: c.link_problem == "many-lines", "the answer has more than 128 header lines", "",
-        "send fewer", HEAD),
+        "send fewer", HEAD, changes.mended_head),
     Way("head/no-status-line", "25", always,
         "the answer begins with `{c.first_bytes}`, and not with the status line of HTTP/1.1 or HTTP/1.0", "",
         "look whether an HTTP server listens there", HEAD),
     Way("head/too-big", "26", always, "the head of the answer is longer than 65,536 bytes", "",
-        "look for a cookie or a policy that grows", HEAD),
+        "look for a cookie or a policy that grows", HEAD, changes.mended_head),
 ]
 
 REQUESTS = [
@@ -296,21 +384,23 @@ REQUESTS = [
     Way("request/no-url", "f1", always, "`{c.command.url}` gives no URL against {c.document[url]}", "",
         "mend it: a bad host, port or address", FAULTS),
     Way("request/url-credentials", "f2", always, "the URL has a user name or a password", "",
-        "take it out, and send Authorization", FAULTS),
+        "{change}", FAULTS, changes.without_user),
     Way("request/bad-method", "f3", always, "the method `{c.command.options[method]}` is no token", "",
-        "write its letters alone", FAULTS),
+        "write its letters alone: {change}", FAULTS, changes.token_method),
     Way("request/forbidden-method", "f4", always, "scripts may not use {c.command.options[method]}", "",
-        "CONNECT, TRACE and TRACK are never sent: use another method", FAULTS),
+        "CONNECT, TRACE and TRACK are never sent: use another method, such as {c.plain_method}", FAULTS, changes.plain_method),
     Way("request/body-with-get", "f5", always, "a {c.command.options[method]} has no body, and this one has", "",
-        "use POST or PUT, or put it into the URL", FAULTS),
+        "{change}, and put it into the URL", FAULTS, changes.post_or_no_body),
     Way("request/no-cors-method", "f6", always,
-        "in mode no-cors the method is GET, HEAD or POST, and not {c.command.options[method]}", "", "ask in mode cors", FAULTS),
-    Way("request/bad-header-name", "f7", lambda c: not re.fullmatch(r"[!#$%&'*+\-.^_`|~0-9A-Za-z]+", c.bad_name),
-        "the header name `{c.bad_name}` is no token", "", "write its letters alone, without colon and blanks", FAULTS),
+        "in mode no-cors the method is GET, HEAD or POST, and not {c.command.options[method]}", "", "{change}", FAULTS,
+        changes.mode_cors),
+    Way("request/bad-header-name", "f7", lambda c: not TOKEN.fullmatch(c.bad_name),
+        "the header name `{c.bad_name}` is no token", "", "write its letters alone, without colon and blanks: {change}", FAULTS,
+        changes.mended_header),
     Way("request/bad-header-value", "f7", always, "the value of {c.bad_name} has a line end or a zero byte in it", "",
-        "take it out", FAULTS),
-    Way("request/navigate", "f8", always, "scripts may not use the mode navigate", "", "use cors, no-cors or same-origin",
-        FAULTS),
+        "take it out: {change}", FAULTS, changes.mended_header),
+    Way("request/navigate", "f8", always, "scripts may not use the mode navigate", "", "{change}; or in another mode", FAULTS,
+        changes.mode_cors),
     Way("request/long-body", "f9", lambda c: len((c.command.body or "").encode("utf-8", "replace")) > 65536,
         "the body has more than 65,536 bytes", "", "send less at once", FAULTS),
     Way("request/long-headers", "f9", always, "the method and the headers have more than 16,384 bytes together", "",
@@ -320,33 +410,35 @@ REQUESTS = [
 SEEN = [
     Way("seen/no-rule", "s", lambda c: c.has_no_rule and c.result.type in ("basic", "loaded", "opaque"),
         "the scenario's server {c.request.origin} has no rule for {c.request.method} {c.request.target}, so the answer is "
-        "an empty 404; {c.nearest_rule}", "", "add a rule for this request, or ask for a path that has one",
-        "../scenario.md#servers"),
+        "an empty 404; {c.nearest_rule}", "", "add a rule for this request: {change}; or ask for a path that has one",
+        "../scenario.md#servers", changes.no_rule),
     Way("seen/opaque", "s", lambda c: c.result.type == "opaque",
         "the mode is no-cors and the answer of another origin, so the script sees nothing of it: not its status {c.status}, "
-        "no header, no body", "", "ask in mode cors, and have the server send {c.cors_headers}", "responses.md#types"),
+        "no header, no body", "", "{change}", "responses.md#types", changes.in_cors),
     Way("seen/opaqueredirect", "s", lambda c: c.result.type == "opaqueredirect",
         "the answer redirects ({c.status}), and the redirect mode is manual: the script does not see where to", "Location",
-        "ask with `redirect` `follow`: the URL of the response is the last one", "responses.md#types"),
+        "{change}: the URL of the response is the last one", "responses.md#types", changes.follow),
     Way("seen/body-cut", "s", lambda c: c.result.ending == "cut",
         "the body ends before the end that its head announced, or does not fit it", "Content-Length",
-        "send all of it, and its right length", "answers.md#the-body"),
+        "send all of it, and its right length", "answers.md#the-body", changes.right_length),
     Way("seen/body-hang", "s", lambda c: c.result.ending == "fault" and c.is_silent,
         "the head came, and the body did not end before the time limit", "",
         "end it; of a stream that has no end a page reads what comes, which is not done here", "answers.md#the-body"),
     Way("seen/body-fault", "s", lambda c: c.result.ending == "fault", "the connection broke in the middle of the body", "",
         "look into the server's log", "answers.md#the-body"),
     Way("seen/body-toobig", "s", lambda c: c.result.ending == "toobig", "the body is longer than the scenario's body limit",
-        "", "set `body_limit`, in format 2", "answers.md#the-body"),
+        "", "set `body_limit`, in format 2", "answers.md#the-body", changes.greater_limit),
+    Way("seen/exposed-list", "s", lambda c: c.result.type == "cors" and c.hidden_by_cors != "" and c.bad_exposed != "",
+        "`{c.bad_exposed}` in Access-Control-Expose-Headers is no token, so nothing is exposed: the script does not see "
+        "{c.hidden_by_cors}", EXPOSE_HEADERS, "{change}: commas between the names, and no quotes, colons or blanks in one", EXPOSED,
+        changes.expose),
     Way("seen/star-with-credentials", "s",
-        lambda c: c.result.type == "cors" and c.hidden_by_cors != "" and c.includes
-        and "*" in [one.strip() for one in (c.get("Access-Control-Expose-Headers") or "").split(",")],
+        lambda c: c.result.type == "cors" and c.hidden_by_cors != "" and c.includes and "*" in c.exposed,
         "with credentials `*` is a plain name and exposes nothing: the script does not see {c.hidden_by_cors}",
-        "Access-Control-Expose-Headers", "name them: `Access-Control-Expose-Headers: {c.hidden_by_cors}`",
-        "responses.md#exposed-names"),
+        EXPOSE_HEADERS, "name them: {change}", EXPOSED, changes.expose),
     Way("seen/hidden-headers", "s", lambda c: c.result.type == "cors" and c.hidden_by_cors != "",
-        "the script does not see these headers of the answer: {c.hidden_by_cors}", "Access-Control-Expose-Headers",
-        "where it needs them send `Access-Control-Expose-Headers: {c.hidden_by_cors}`", "responses.md#exposed-names"),
+        "the script does not see these headers of the answer: {c.hidden_by_cors}", EXPOSE_HEADERS,
+        "where it needs them {change}", EXPOSED, changes.expose),
 ]
 
 # What bin/ask says in the place of these, since it has no routes and no scenario: the condition, and what to change.
@@ -370,21 +462,28 @@ def way_lines():
 
 
 class Explanation:
-    """A way that holds of a case, with its texts filled in."""
+    """A way that holds of a case, with its texts filled in. `edits` are the change as data (edits.py), and `others` what would do
+    in its place."""
 
     def __init__(self, way, c):
         condition, change, rule = way.condition, way.change, way.rule
         if c.is_direct:
             condition, change = ASKED.get(way.name, (condition, change))
             rule = "../ask.md" if rule.startswith("../check-your-server.md") else rule
+        found = [one for one in way.changes(c) if one]
+        is_asked = key_of(c.result) in PREFLIGHTED and c.about is None and way not in DIRECT and c.origin != "null"
         self.way = way.name
         self.condition = condition.format(c=c)
-        self.change = change.format(c=c)
+        told = edits.sentence([shown(one) for one in found] if is_asked else found)
+        change = change if told else change.replace("{change}; or ", "")
+        self.change = change.format(c=c, change=told or NOTHING)
+        self.edits = found[0] if found else []
+        self.others = found[1:]
         self.rule = "docs/rules/" + rule if not rule.startswith("../") else "docs/" + rule[3:]
         self.header = way.header.format(c=c)
         self.value = c.get(self.header) if self.header else None
         self.misspelt = misspelt(c, self.header) if self.header and self.value is None else None
-        self.needs = least_headers(c) if key_of(c.result) in ("7", "8", "9", "10", "11") and way not in DIRECT else []
+        self.needs = c.needs_told.lines() if is_asked else []
 
     def lines(self):
         """As it stands between the lines of a play."""
@@ -400,6 +499,29 @@ class Explanation:
         return dict(self.__dict__)
 
 
+class PolicyExplanation(Explanation):
+    """The same of one violated policy."""
+
+    def __init__(self, way, c):
+        super().__init__(way, c)
+        self.policy = c.violated.policy
+        self.enforced = c.violated.enforced
+        self.directive = c.violated.directive
+        self.url = c.violated.url
+
+    def lines(self):
+        return ["policy: " + self.condition, "change: " + self.change]
+
+
+# where no change is to be made
+NOTHING = "nothing is to be changed"
+
+
+def shown(change):
+    """What is not said of the answer to the request in the lines `in all`."""
+    return [edit for edit in change if edit["at"] != "answer"] or change
+
+
 def misspelt(c, wanted):
     """The name in the answer that comes near to a CORS header that is not there, or None."""
     right = {"access-control-" + one for one in ("allow-origin", "allow-credentials", "allow-methods", "allow-headers",
@@ -409,26 +531,34 @@ def misspelt(c, wanted):
     return names[near[0]] if near else None
 
 
-def least_headers(c):
-    """All that lets a preflighted request pass, of its two answers; nothing where no server should send it."""
-    if c.origin == "null":
-        return []
-    both = ["Access-Control-Allow-Origin: " + c.origin] + (["Access-Control-Allow-Credentials: true"] if c.includes else [])
-    more = [] if c.method in ("GET", "HEAD", "POST") else ["Access-Control-Allow-Methods: " + c.method]
-    more += ["Access-Control-Allow-Headers: " + c.asked_headers] if c.asked_headers else []
-    quoted = [", ".join("`%s`" % line for line in lines) for lines in (both + more, both)]
-    return ["the answer to OPTIONS needs a status of 200 to 299, " + quoted[0],
-            "the answer to %s needs %s" % (c.method, quoted[1])]
-
-
 def key_of(result):
     if not result.is_refused():
         return "s"
     return ("f%d" if result.is_fault else "%d") % result.number
 
 
+def way_of(case, key):
+    return next((way for way in TABLE if key in way.results.split() and way.holds(case)), None)
+
+
 def explain(case):
     """The explanation of a case; None where nothing is to be said of it."""
-    key = key_of(case.result)
-    way = next((way for way in TABLE if key in way.results.split() and way.holds(case)), None)
+    way = way_of(case, key_of(case.result))
     return None if way is None else Explanation(way, case)
+
+
+def explain_policies(case):
+    """Of each violated policy what to change in it, but of the one that the explanation is about."""
+    way = case.explanation.way if case.explanation else ""
+    own = [case.violated] if way.startswith("policy/") else []
+    found = []
+    for violation in case.violations:
+        if violation not in own:
+            about = case.of_violation(violation)
+            found.append(PolicyExplanation(way_of(about, "19" if is_of_port(about) else "4"), about))
+    return found
+
+
+def is_of_port(case):
+    """Whether a policy is violated by a response, since its word has port 80."""
+    return case.violated.at_response and csp.passes(changes.portless(case.directive[1]), case.policy_asked)

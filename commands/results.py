@@ -8,7 +8,7 @@ NETWORK_ERRORS = ["Scheme", "BadPort", "Mixed", "CspRequest", "SameOriginMode", 
 FAULTS = ["BadUrl", "UrlCredentials", "BadMethod", "ForbiddenMethod", "BodyWithGet", "NoCorsMethod", "BadHeader",
           "NavigateMode", "TooLong"]
 TYPES = ["basic", "cors", "opaque", "opaqueredirect", "loaded", "failed", "type-error"]
-WORDS = ["read", "refused"] + TYPES + NETWORK_ERRORS + FAULTS
+WORDS = ["read", "refused", "no-verdict"] + TYPES + NETWORK_ERRORS + FAULTS
 
 
 def is_met(wanted, result):
@@ -16,12 +16,19 @@ def is_met(wanted, result):
     if wanted == "read":
         return result.type in ("basic", "cors", "loaded")
     if wanted == "refused":
-        return result.is_refused()
+        return result.is_refused() and not has_no_verdict(result)
+    if wanted == "no-verdict":
+        return has_no_verdict(result)
     got = result.short().split()
     if result.is_refused() and result.type == "failed":
         got = ["failed"] + got
     words = wanted.split()
     return any(got[start:start + len(words)] == words for start in range(len(got) - len(words) + 1))
+
+
+def has_no_verdict(result):
+    """Whether a browser would go on where this engine ends: told.py says so of the result."""
+    return getattr(result, "verdict", None) == "none"
 
 
 def unknown_word(wanted):

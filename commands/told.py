@@ -2,7 +2,8 @@
 with `<` or `#`, so the play is what is left without them."""
 from commands import answers
 from commands.case import Case
-from commands.explanations import explain
+from commands.explanations import explain, explain_policies
+from commands.notes import notes
 
 LONGEST = 200  # bytes of a line
 
@@ -18,6 +19,9 @@ class Told:
             exchanges = [(request, answer_of(request)) for request in fetch.of("send")]
             case = Case(scenario, fetch, exchanges, is_net)
             case.explanation = explain(case)
+            case.policies_told = explain_policies(case)
+            case.notes = notes(case)
+            case.result.verdict = case.verdict
             self.cases.append(case)
 
     def pieces(self):
@@ -26,13 +30,18 @@ class Told:
         for case in self.cases:
             for request, answer in case.exchanges:
                 behind.setdefault(request.last, []).extend("< " + line for line in answer_lines(answer))
-            if case.explanation:
-                behind.setdefault(case.result.last, []).extend("# " + line for line in case.explanation.lines())
+            behind.setdefault(case.result.last, []).extend("# " + line for line in own_lines(case))
         for number, line in enumerate(self.play.lines, 1):
             yield line, behind.get(number, [])
 
     def data(self):
         return [case_data(case) for case in self.cases]
+
+
+def own_lines(case):
+    """What is to be said of a fetch behind its result."""
+    lines = ["note: " + note for note in case.notes] + (case.explanation.lines() if case.explanation else [])
+    return lines + [line for policy in case.policies_told for line in policy.lines()]
 
 
 def shown(data):
@@ -55,11 +64,13 @@ def case_data(case):
     result = case.result
     return {
         "document": case.fetch.document.number, case.fetch.name.split()[0]: case.fetch.number,
-        "line": case.fetch.line, "url": case.command.url, "result": result.short(), "type": result.type,
+        "line": case.fetch.line, "url": case.command.url, "verdict": case.verdict, "result": result.short(), "type": result.type,
         "status": result.status, "headers": result.headers,
         "body": None if result.body is None else result.body.decode("utf-8", "replace"),
         "requests": [request_data(request, answer) for request, answer in case.exchanges],
+        "notes": case.notes,
         "why": case.explanation.data() if case.explanation else None,
+        "policies": [policy.data() for policy in case.policies_told],
     }
 
 

@@ -1,0 +1,209 @@
+"""Scenarios whose advice commands/check_advice follows to the end, beside those of cases.py: mistakes that stand together,
+what a server sends already, chains of redirects, and policies as people write them."""
+from commands.cases import (API, DIGEST, INCLUDE, NAMED, OK, PAGE, POLICY, PUT, SECRET, TRUE, allow, answered, fetch, load,
+                            policed, raw, rule, scenario)
+
+JSON = {"method": "PUT", "headers": [["Content-Type", "application/json"], ["Authorization", "Bearer a"]], "body": "{}"}
+ALLOW = "Access-Control-Allow-"
+STAR = [ALLOW + "Origin", "*"]
+OTHER = [ALLOW + "Origin", "https://other.test"]
+REPORT = POLICY + "-Report-Only"
+CDN = "https://cdn.test"
+IMAGES = "https://img.test"
+SCRIPT = "sha256-" + DIGEST["sha256"]
+KNOWN = {"hsts": [{"host": "shop.test", "subdomains": False, "until": 10}], "page": "http://shop.test/"}
+UPGRADE = "; upgrade-insecure-requests"
+OWN = ["Cross-Origin-Resource-Policy", "same-origin"]
+
+
+def methods(value):
+    return [ALLOW + "Methods", value]
+
+
+def names(value):
+    return [ALLOW + "Headers", value]
+
+
+def exposed(value):
+    return ["Access-Control-Expose-Headers", value]
+
+
+def asked(status, *headers, **more):
+    """A rule for OPTIONS."""
+    return rule(status, headers, method="OPTIONS", **more)
+
+
+def led(location, status=302, *headers, **more):
+    """A rule that redirects."""
+    return rule(status, [["Location", location], *headers], **more)
+
+
+def at(origin, *rules):
+    """The servers of a scenario that has one more."""
+    return {"servers": [{"origin": origin, "rules": list(rules)}]}
+
+
+def reported(policy, command, **more):
+    """A command of a page with this policy, which only reports."""
+    return scenario(command, headers=[[REPORT, policy]], **more)
+
+
+def script(**more):
+    return load("script", **more)
+
+
+CODE = at(API, rule(200, [STAR], "abc"))  # of the digest above
+
+PREFLIGHTS = {
+    "a bare 404 and JSON with credentials": scenario(fetch(**JSON, **INCLUDE), [asked(404), rule()]),
+    "a bare redirect to a slash": scenario(fetch(**PUT), [led("/x/", 301, path="/x"), asked(404, path="/x/"), rule()]),
+    "a bare redirect to a login": scenario(fetch(**PUT), [led("https://login.test/", method="OPTIONS"), rule()]),
+    "a redirect without a Location": scenario(fetch(**PUT), [asked(302), rule()]),
+    "a redirect with a star, and credentials": scenario(
+        fetch(**PUT, **INCLUDE), [led("/x/", 308, STAR, method="OPTIONS", path="/x"), rule()]),
+    "a 405 that allows another page": scenario(fetch(**PUT), [asked(405, OTHER), rule()]),
+    "a 405 with a star, and credentials": scenario(fetch(**PUT, **INCLUDE), [asked(405, STAR), rule()]),
+    "a 401 with all but the status": scenario(fetch(**PUT), [asked(401, OK, methods("PUT")), rule(200, [OK])]),
+    "a 304": scenario(fetch(**PUT), [asked(304), rule()]),
+    "a 500 with lists of others": scenario(
+        fetch(**JSON), [asked(500, OK, methods("GET, POST"), names("X-Requested-With")), rule(200, [OK])]),
+    "no rule for OPTIONS": scenario(fetch(**PUT), [rule(200, [OK], method="PUT")]),
+    "one name of two": scenario(fetch(**JSON), allow(methods("PUT"), names("content-type"))),
+    "a name in capitals": scenario(fetch(**JSON), allow(methods("PUT"), names("CONTENT-TYPE, X-A"))),
+    "names twice": scenario(fetch(**NAMED), allow(names("x-b, X-B, content-type"))),
+    "methods of others": scenario(fetch(method="DELETE"), allow(methods("GET, POST, PUT"))),
+    "a method in small letters": scenario(fetch(**PUT), allow(methods("put, GET"))),
+    "a star and Authorization": scenario(fetch(**SECRET), allow(names("*"))),
+    "a star in three lists, and credentials": scenario(
+        fetch(**JSON, **INCLUDE), [asked(204, STAR, methods("*"), names("*")), rule(200, [STAR])]),
+    "a star in two lists, and credentials": scenario(fetch(**JSON, **INCLUDE), allow(TRUE, methods("*"), names("*"))),
+    "quotes in a list": scenario(fetch(**JSON), allow(methods('"PUT", "GET"'), names("[Content-Type]"))),
+    "blanks between names": scenario(fetch(**JSON), allow(methods("GET PUT"), names("Content-Type Authorization"))),
+    "a bad list of a POST": scenario(fetch(**NAMED, method="POST", body="a"), allow(methods("GET;POST"), names("X-A"))),
+    "an origin with a slash, JSON and credentials": scenario(
+        fetch(**JSON, **INCLUDE), [asked(204, [ALLOW + "Origin", PAGE + "/"]), rule()]),
+    "credentials in capitals": scenario(fetch(**PUT, **INCLUDE), [asked(204, OK, [ALLOW + "Credentials", "TRUE"]), rule()]),
+    "an upload": scenario(fetch(method="POST", body="a", upload=True), [asked(404), rule()]),
+}
+CORS = {
+    "a misspelt header": answered([ALLOW + "Orgin", "*"]),
+    "two origins in one": answered([ALLOW + "Origin", PAGE + ", https://other.test"], **INCLUDE),
+    "an error with credentials": answered(status=503, **INCLUDE),
+    "a font": scenario(load("font"), [rule()]),
+    "a script with use-credentials": scenario(script(crossorigin="use-credentials"), [rule(200, [STAR])]),
+    "credentials that are not allowed": scenario(load("image", crossorigin="use-credentials"), [rule(200, [OK])]),
+    "bytes with the header twice": raw("HTTP/1.1 200 OK\r\n%s: *\r\n%s: *\r\n\r\nhi" % (STAR[0], STAR[0])),
+    "exposed names of others": answered(OK, exposed("x-page, X-PAGE"), ["X-Total", "4"], ["X-Page", "1"], ["X-Rest", "2"]),
+    "an exposed star, credentials and a name": answered(
+        OK, TRUE, exposed("*, X-Page"), ["X-Total", "4"], ["X-Page", "1"], **INCLUDE),
+    "an image that is not shared": scenario(
+        load("image", "https://img.shop.test/x"), [rule(200, [OWN])], "https://img.shop.test"),
+    "no-cors with a header that is dropped": scenario(fetch(mode="no-cors", **NAMED), [rule(200, [OWN])]),
+    "an opaque POST of JSON": scenario(fetch(mode="no-cors", **{**JSON, "method": "POST"}), [rule()]),
+    "an opaque answer with credentials": scenario(fetch(mode="no-cors", **INCLUDE), [rule(200, [STAR])]),
+    "no rule, opaque": scenario(fetch(API + "/y", mode="no-cors"), [rule(path="/x")]),
+    "a server of another port": scenario(fetch(), [rule(200, [OK])], API + ":8443"),
+}
+CHAINS = {
+    "a redirect without headers, then none": scenario(fetch(API + "/1"), [led("/2", path="/1"), rule(path="/2")]),
+    "home, away": scenario(fetch("/go"), [led(API + "/x")], PAGE, **at(API, rule())),
+    "away, further away": scenario(fetch(API + "/1"), [led(CDN + "/2", 302, OK)], **at(CDN, rule(200, [OK]))),
+    "away, further away, with credentials": scenario(
+        fetch(API + "/1", **INCLUDE), [led(CDN + "/2", 302, OK, TRUE)], **at(CDN, rule(200, [OK, TRUE]))),
+    "away, further away, without headers": scenario(fetch(API + "/1"), [led(CDN + "/2", 302, OK)], **at(CDN, rule())),
+    "away and home": scenario(fetch(API + "/1"), [led(PAGE + "/2", 302, OK)], **at(PAGE, rule())),
+    "a PUT that is led on": scenario(
+        fetch(API + "/1", **PUT), [asked(204, OK, methods("PUT")), led("/2", 307, path="/1"), rule(path="/2")]),
+    "a PUT that is led away": scenario(
+        fetch(API + "/1", **PUT), [asked(204, OK, methods("PUT")), led(CDN + "/2", 307, OK)],
+        **at(CDN, rule(204, [OK, methods("PUT")]))),
+    "a POST that becomes a GET": scenario(
+        fetch(API + "/1", method="POST", body="a"), [led(CDN + "/2", 303, OK)], **at(CDN, rule(200, [OK]))),
+    "a redirect to http": scenario(fetch("/go"), [led("http://api.test/x")], PAGE, **at(API, rule(200, [OK]))),
+    "a redirect to a bad port": scenario(fetch("/go"), [led("https://shop.test:6000/x")], PAGE),
+    "an opaque chain with an integrity text": scenario(
+        script(url=API + "/1", integrity=SCRIPT), [led(CDN + "/2")], **at(CDN, rule(200, body="abc"))),
+    "a redirect of a same-origin fetch": scenario(
+        fetch("/go", mode="same-origin"), [led(API + "/x")], PAGE, **at(API, rule())),
+    "an error mode without a Location": answered(OK, status=302, redirect="error"),
+    "an opaque redirect to another origin": scenario(
+        fetch("/go", redirect="manual"), [led(API + "/x")], PAGE, **at(API, rule())),
+}
+POLICIES = {
+    **{"default-src alone: %s" % kind: policed("default-src 'self'", load(kind))
+       for kind in ("image", "audio", "font", "manifest", "style", "script")},
+    "default-src alone": policed("default-src 'self' https://cdn.test"),
+    "none without quotes": policed("default-src none"),
+    "unsafe-inline without quotes": policed("script-src 'self' unsafe-inline", script()),
+    "strict-dynamic without quotes": policed("script-src strict-dynamic https://cdn.test", script()),
+    "strict-dynamic without quotes, inserted": policed("script-src strict-dynamic", script(parser=False)),
+    "a nonce without quotes": policed("script-src nonce-abc", script(nonce="abc")),
+    "a nonce without quotes, and another": policed("script-src nonce-abc", script(nonce="xyz")),
+    "a hash without quotes": policed("script-src " + SCRIPT, script(crossorigin="anonymous", integrity=SCRIPT), **CODE),
+    "double quotes": policed('connect-src "self"', fetch("/x")),
+    "strict-dynamic without a nonce": policed("script-src 'strict-dynamic'", script()),
+    "strict-dynamic and an integrity text": policed(
+        "script-src 'strict-dynamic' 'nonce-a'", script(integrity=SCRIPT, crossorigin="anonymous"), **CODE),
+    "a hash of another text": policed(
+        "script-src '%s'" % SCRIPT, script(integrity=SCRIPT, crossorigin="anonymous"), **at(API, rule(200, [STAR], "abd"))),
+    "a script of default-src": policed("default-src 'self' 'nonce-n1'", script()),
+    "a path with its slash": policed("connect-src https://api.test/v1/", fetch(API + "/v1")),
+    "another path": policed("connect-src https://api.test/v1/", fetch(API + "/v2/x")),
+    "a port of another": policed("connect-src https://api.test:8443"),
+    "port 80 of an https page": policed("connect-src http://api.test:80"),
+    "a bare domain": policed("connect-src *.example.test", fetch("https://example.test/x")),
+    "a www": policed("connect-src www.example.test", fetch("https://example.test/x")),
+    "a word of https on a page of http": policed(
+        "img-src https:", load("image", "http://img.test/i.png"), page="http://shop.test/"),
+    "an image that is upgraded": policed("img-src 'self'", load("image", "http://img.test/i.png")),
+    "a fetch that is upgraded": policed("connect-src 'self'" + UPGRADE, fetch("http://api.test/x")),
+    "an upgraded image of an address": policed("img-src 'self'" + UPGRADE, load("image", "http://203.0.113.7/i.png")),
+    "a page of an address": policed("connect-src https://cdn.test", fetch("/x"), page="http://192.0.2.7:8000/"),
+    "three policies": scenario(
+        fetch(), headers=[[POLICY, "default-src 'self', connect-src 'none'"], [POLICY, "connect-src https://cdn.test"]]),
+    "two policies, and one that reports": scenario(
+        fetch(), headers=[[POLICY, "connect-src 'self'"], [REPORT, "default-src 'none'"], [POLICY, "default-src " + CDN]]),
+    "a report of what is read": reported("connect-src 'self'", fetch(), **at(API, rule(200, [OK]))),
+    "a report of what is upgraded": reported(
+        "img-src https://img.test", load("image", "http://img.test/i.png"), **at(IMAGES, rule())),
+    "a report of what is upgraded, and no word": reported(
+        "img-src 'self'", load("image", "http://img.test/i.png"), **at(IMAGES, rule())),
+    "a report of what is upgraded, without quotes": reported(
+        "img-src self", load("image", "http://img.test/i.png"), **at(IMAGES, rule())),
+    "two nonces": scenario(script(nonce="a"), headers=[[POLICY, "script-src 'nonce-a'"], [POLICY, "script-src 'nonce-b'"]]),
+    "two nonces, and none": scenario(script(), headers=[[POLICY, "script-src 'nonce-a'"], [POLICY, "script-src 'nonce-b'"]]),
+    "a report of mixed content": reported("connect-src 'self'", fetch("http://api.test/x")),
+    "a report behind a redirect": reported("connect-src 'self'", fetch("/go"), servers=[
+        {"origin": PAGE, "rules": [led(API + "/x")]}, {"origin": API, "rules": [rule(200, [OK])]}]),
+    "a policy and a header": policed("default-src 'self'", fetch(**JSON, **INCLUDE), **at(API, rule(404))),
+    "a response with port 80, and another policy": scenario(
+        fetch("http://h.test/x"), [rule(200, [STAR])], "https://h.test", page="http://shop.test/",
+        headers=[[POLICY, "connect-src http://h.test:80"], [POLICY, "connect-src 'self'"]],
+        hsts=[{"host": "h.test", "subdomains": False, "until": 10}]),
+}
+OTHERS = {
+    "a data URL that nothing hinders": scenario(load("image", "data:image/png,a")),
+    "a data URL under two policies": scenario(
+        load("font", "data:font/woff2,a"), headers=[[POLICY, "default-src 'self'"], [POLICY, "font-src *"]]),
+    "a script of a data URL": policed("default-src 'self' data", load("script", "data:text/javascript,a")),
+    "a scheme without its colon": policed("img-src 'self' data", load("image", "data:image/png,a")),
+    "a blob of a policy": policed("connect-src *", fetch("blob:https://shop.test/1")),
+    "a WebSocket of a policy": policed("default-src 'self'", fetch("wss://api.test:8443/x")),
+    "a WebSocket in plain": policed("connect-src 'self'", fetch("ws://shop.test/x")),
+    "a coded body with an integrity text": answered(OK, ["Content-Encoding", "br"], body="abc", integrity=SCRIPT),
+    "a file": scenario(fetch("file:///etc/hosts")),
+    "a host for a scheme, on a secure page": scenario(fetch("api.test:8443/x"), [rule(200, [OK])], API + ":8443"),
+    "a video of an address": scenario(load("video", "http://203.0.113.7:8080/x")),
+    "a HEAD with an integrity text": answered(OK, body="abc", method="HEAD", integrity=SCRIPT),
+    "a script of a table": scenario(
+        script(), [rule(200, [["Content-Type", "text/csv"], ["X-Content-Type-Options", "nosniff"]])]),
+    "a length of two": answered(OK, ["Content-Length", "3, 4"], body="abc"),
+    "a known host by its whole URL": scenario(fetch("http://shop.test/x", mode="same-origin"), **KNOWN),
+    "a user name in the URL": scenario(fetch("https://u:p@api.test/x"), [asked(404), rule()]),
+}
+
+
+def scripted():
+    """Each by its name."""
+    for group in (PREFLIGHTS, CORS, CHAINS, POLICIES, OTHERS):
+        yield from group.items()

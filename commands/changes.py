@@ -1,0 +1,413 @@
+"""What is to be changed, so that a fetch comes further: of each way all that would do, the best first, as lists of
+edits (edits.py). `c` is the case."""
+import base64
+import re
+from urllib.parse import unquote, urlsplit
+
+from commands import answers, csp, edits, guards
+from commands.case import Violation
+from commands.needs import EXPOSE_HEADERS, TOKEN, Needs, merged
+from commands.play_text import is_preflight
+from commands.scenario import joined, origin_of
+from commands.urls import host_of, is_trustworthy, scheme_of, secure, without_user_info
+
+
+def nothing(c):
+    return []
+
+
+# ---- the URL
+
+def over(url, c):
+    """A URL as the page may ask for it: over https where it prohibits mixed content."""
+    return secure(url) if c.is_secure and scheme_of(url) in ("http", "ws") and not is_trustworthy(url) else url
+
+
+def ask_for(url, c):
+    """The page asks for this URL itself. Of a chain that has changed the method by then, with that one."""
+    found = [edits.request("url", over(url, c))]
+    if c.chain and not c.command.is_load and c.method != guards.normalised(c.command.options["method"]):
+        found.append(edits.request("method", c.method))
+        found += [edits.no_body()] if c.command.options["body"] is not None else []
+    return found
+
+
+def lead_to(url, c):
+    """What leads to a URL leads to another one: the page, or the last answer that redirects."""
+    if not c.is_redirected:
+        return [edits.request("url", url)]
+    request = c.chain[-1][0]
+    return [edits.answer(request.method, c.whole(request), "Location", url)]
+
+
+def ask_secure(c):
+    return [lead_to(secure(c.url), c)]
+
+
+def with_scheme(c):
+    url = "http://" + c.command.url.strip()
+    return [[edits.request("url", over(url, c))]]
+
+
+def other_port(c):
+    parts = urlsplit(c.url)
+    host = parts.netloc.rpartition("@")[2].rpartition(":")[0]
+    origin = "%s://%s:%d" % (parts.scheme, host, 8443 if parts.scheme == "https" else 8080)
+    number = c.scenario.server_of(c.url_origin)
+    rules = [] if number is None else c.scenario.servers()[number]["rules"]
+    server = [] if c.is_net else [edits.server(origin, rules)]
+    return [server + lead_to(joined(c.url, "").replace(c.url_origin, origin, 1), c)]
+
+
+# ---- CORS
+
+def cors(c):
+    """All that the answers at this URL need: of a preflight that was refused both."""
+    return [c.needs.all_edits() if is_preflight(c.request) else c.needs.own_edits()]
+
+
+def cors_or_without_credentials(c):
+    return cors(c) + [[without_credentials(c)]]
+
+
+def without_credentials(c):
+    if c.command.is_load:
+        return edits.request("crossorigin", "anonymous")
+    return edits.request("credentials", "same-origin")
+
+
+def cors_or_next_url(c):
+    return cors(c) + next_url(c)
+
+
+def next_url_or_cors(c):
+    """Of another host the server is to answer first: it may be that of a login."""
+    both = next_url(c) + cors(c)
+    return both if host_of(c.next_url) == host_of(c.asked_url) else both[::-1]
+
+
+def no_rule(c):
+    """A rule for the request, with what CORS wants of it."""
+    if c.result.number not in (7, 12) or c.result.is_fault:
+        return [[here(c, "status", 200)]]
+    found = [] if is_preflight(c.request) else [here(c, "status", 200)]
+    return [found + cors(c)[0]]
+
+
+def here(c, name, value):
+    """At the last answer."""
+    return (edits.preflight(c.asked_url, name, value) if is_preflight(c.request)
+            else edits.answer(c.request.method, c.asked_url, name, value))
+
+
+def origin_null(c):
+    """The page asks for the last URL itself, and is allowed there; or `*`, where no credentials go along."""
+    names = guards.unsafe_names(guards.kept(c.command.headers, "cors"))
+    own = None if is_preflight(c.request) else c.head
+    needs = Needs(c.asked_url, c.page_origin, c.includes, c.method, names, c.preflight_head, own, c.has_listener)
+    itself = ask_for(c.asked_url, c) + ([] if origin_of(c.asked_url) == c.page_origin else needs.all_edits())
+    star = [{**edit, "value": "*"} if edit["value"] == "null" else edit for edit in cors(c)[0]]
+    is_loop = c.asked_url in [hop.sent for hop in c.hops[:-1]]
+    return ([] if is_loop else [itself]) + ([] if c.includes else [star])
+
+
+def method_in_another_case(c):
+    """The page's, where it says in small letters what the server lists in capitals; else the server's."""
+    page = [edits.request("method", c.same_method), *c.needs_told.all_edits()]
+    return ([page] if c.is_page_in_small else []) + cors(c)
+
+
+def in_cors(c):
+    """The page asks in mode cors, or with `crossorigin`, for the last URL; and the server allows it."""
+    names = guards.unsafe_names(guards.kept(c.command.headers, "cors"))
+    includes = c.includes and not c.command.is_load
+    needs = Needs(c.asked_url, c.page_origin, includes, c.method, names, c.preflight_head, c.head, c.has_listener)
+    mode = edits.request("crossorigin", "anonymous") if c.command.is_load else edits.request("mode", "cors")
+    return [(ask_for(c.asked_url, c) if len(c.chain) > 1 else []) + [mode] + needs.all_edits()]
+
+
+def without_user_agent(c):
+    """The browser sends its own; or the server lists it."""
+    left = [list(pair) for pair in c.command.options["headers"] if pair[0].lower() != "user-agent"]
+    return [[edits.request("headers", left), *c.needs_told.all_edits()]] + cors(c)
+
+
+def mode_cors(c):
+    return [[edits.request("mode", "cors")]]
+
+
+def expose(c):
+    known = {name.lower() for name, _ in c.head.headers}
+    return [[here(c, EXPOSE_HEADERS, merged(c.get(EXPOSE_HEADERS), c.hidden_names, True, known))]]
+
+
+# ---- redirects
+
+def redirect_within(c):
+    """In mode cors; or the redirect stays at the page's origin."""
+    parts = urlsplit(c.url)
+    return mode_cors(c) + [lead_to(c.page_origin + parts._replace(scheme="", netloc="").geturl(), c)]
+
+
+def follow(c):
+    return [[edits.request("redirect", "follow")]]
+
+
+def follow_or_next_url(c):
+    return follow(c) + next_url(c)
+
+
+def follow_or_cors(c):
+    return follow(c) + mode_cors(c)
+
+
+def next_url(c):
+    """The page asks for the URL to which the answer redirects, where that is another one."""
+    url = without_user_info(c.next_url) if origin_of(c.next_url) else None
+    is_other = url is not None and url not in [c.asked_url, *(hop.asked for hop in c.hops)]
+    return [ask_for(url, c)] if is_other else []
+
+
+def location(value):
+    """The Location is another."""
+    return lambda c: [[here(c, "Location", value(c))]]
+
+
+def first_location(c):
+    return c.head.values("Location")[0]
+
+
+def location_without_credentials(c):
+    return without_user_info(c.next_url)
+
+
+def secure_page(c):
+    """The page over https, and what it asks for too."""
+    return [[edits.page("url", secure(c.document["url"]))] + ([edits.request("url", secure(c.asked_url))]
+                                                             if scheme_of(c.command.url) == "http" else [])]
+
+
+# ---- policies
+
+def policy_edit(c, words):
+    """The violated policy's directive, or the one that is to stand beside default-src, with these words."""
+    name = csp.written_for(c.directive[0], c.violated.directive)
+    return edits.policy(c.violated.policy, name, list(dict.fromkeys(words)), name != c.directive[0])
+
+
+def source_of(c):
+    """The word that lets the URL pass, and no more than its origin."""
+    url = over(c.policy_url, c)
+    if origin_of(url) == c.page_origin:
+        return "'self'"
+    if scheme_of(url) not in ("http", "https", "ws", "wss") or csp.is_address(host_of(url)):
+        return scheme_of(url) + ":"
+    return re.match(r"[^:]*://[^/?#]*", origin_of(url) or url).group()
+
+
+def filled(words):
+    """Without 'none', which stands alone."""
+    return [word for word in words if word.lower() != "'none'"]
+
+
+def quoted(c):
+    changed = dict(csp.unquoted(c.directive[1]))
+    return filled(changed.get(word, word) for word in c.directive[1])
+
+
+def with_words(c, words):
+    """The edits by which words let the element pass: as they are, or with the URL's, or by a nonce."""
+    asked = c.policy_asked
+    more = words if csp.passes(words, asked) else [*words, source_of(c)]
+    if c.kind == "script" and not csp.passes(more, asked):
+        return by_nonce(c, words)
+    return [policy_edit(c, more)]
+
+
+def by_nonce(c, words):
+    """One nonce at the element and in all policies: a new one where there is none."""
+    value = c.common_nonce or "r4nd0m"
+    words = words if value in csp.nonces(words) else [*words, "'nonce-%s'" % value]
+    more = [policy_edit(c, words)] if words != c.directive[1] else []
+    return more + ([edits.request("nonce", value)] if value != c.nonce else [])
+
+
+def nonce(c):
+    return [by_nonce(c, filled(c.directive[1]))]
+
+
+def add_source(c):
+    return [with_words(c, filled(c.directive[1]))]
+
+
+def put_quotes(c):
+    """And the policy's nonce at the element, where it has another one."""
+    words = quoted(c)
+    if c.is_before_upgrade:
+        return [lead_secure(c) + with_words(of_secure(c), words)]
+    is_other = c.kind in ("script", "style") and csp.nonces(words) and not csp.passes(words, c.policy_asked)
+    return ([by_nonce(c, words)] if is_other else []) + [with_words(c, words)]
+
+
+def nonce_or_inserted(c):
+    return add_hashes(c) + [by_nonce(c, c.directive[1]), [edits.request("parser", False)]]
+
+
+def nonce_or_source(c):
+    return [by_nonce(c, c.directive[1])] + add_source(c)
+
+
+def add_hashes(c):
+    """The digests of the element's integrity text; nothing where it has none."""
+    tokens = csp.digests(c.command.options["integrity"])
+    return [[policy_edit(c, filled(c.directive[1]) + ["'%s'" % token for token in tokens])]] if tokens else []
+
+
+def rewrite(c):
+    """The word that comes near, as it was meant. It stays beside that, unless it is no good for anything."""
+    near, words = c.near_word, filled(c.directive[1])
+    if near.fault in ("path-star", "colon"):
+        return [[policy_edit(c, [near.written if word == near.word else word for word in words])]]
+    return [[policy_edit(c, [*words, near.written])]]
+
+
+def secure_or_rewrite(c):
+    is_plain = scheme_of(c.policy_url) == "http" and not c.violated.redirected
+    asked = [lead_to(secure(c.policy_url), c)] if is_plain else []
+    return asked + ([] if c.is_secure else rewrite(c))
+
+
+def before_upgrade(c):
+    """The page asks over https itself; and the policy lets that."""
+    case = of_secure(c)
+    own = [] if csp.passes(c.directive[1], case.policy_asked) else with_words(case, filled(c.directive[1]))
+    return [lead_secure(c) + own]
+
+
+def of_secure(c):
+    """The case of the violation that there would be over https."""
+    return c.of_violation(c.violated._replace(url=secure(c.policy_url)))
+
+
+def lead_secure(c):
+    """The page asks for the URL of a violation over https, or the redirect leads there so."""
+    url = secure(c.policy_url)
+    return leading(c, url) if c.violated.redirected else [edits.request("url", url)]
+
+
+def leading(c, url):
+    """The redirect that led to the URL of a violation leads to this one."""
+    index = next((number for number, hop in enumerate(c.hops) if hop.asked == c.policy_url), 0)
+    request = c.chain[index - 1][0] if 0 < index <= len(c.chain) else None
+    return [edits.answer(request.method, c.whole(request), "Location", url)] if request else []
+
+
+def portless(words):
+    """Words without the port 80, which an https URL has not."""
+    return [re.sub(r":80(?=/|$)", "", word) for word in words]
+
+
+def without_port(c):
+    return [[policy_edit(c, portless(c.directive[1]))]]
+
+
+# ---- answers
+
+def header(name, value):
+    """A header of the last answer, by a value of the case."""
+    return lambda c: [[here(c, name, value(c) if callable(value) else value)]]
+
+
+def resource_policy(c):
+    """For all; for the same site; or the request asks for CORS, and the server allows it."""
+    name = "Cross-Origin-Resource-Policy"
+    is_site = c.is_same_site() and c.get(name) == "same-origin" and (
+        c.page_origin.startswith("https:") or c.request.origin.startswith("http:"))
+    return [[here(c, name, "cross-origin")], *([[here(c, name, "same-site")]] if is_site else []), *in_cors(c)]
+
+
+def resource_policy_or_secure_page(c):
+    return [[here(c, "Cross-Origin-Resource-Policy", "cross-origin")], *secure_page(c)]
+
+
+def integrity(c):
+    """The digest anew, and in the policies that pass the element by it alone."""
+    found, effective = [edits.request("integrity", c.right_digest)], csp.EFFECTIVE[c.kind]
+    asked = c.asked_of(Violation(0, True, effective, c.asked_url, len(c.chain) > 1, False))
+    for number, (_, policy) in enumerate(c.policies):
+        name, own = csp.deciding(policy, effective)
+        if name in policy and csp.passes(own, asked) and not csp.passes(own, asked._replace(integrity=c.right_digest)):
+            found.append(edits.policy(number, csp.written_for(name, effective), [*own, "'%s'" % c.right_digest]))
+    return [found]
+
+
+def body_or_no_integrity(c):
+    """An answer that has a body; one to HEAD never has."""
+    body = [] if c.request.method == "HEAD" else [[here(c, "status", 200)]]
+    return body + [[edits.request("integrity", "")]]
+
+
+def right_length(c):
+    """The length of what came, where the connection did not break and a length was what said how much is to come."""
+    if c.is_net or c.get("Transfer-Encoding") is not None:
+        return []
+    return [[here(c, "Content-Length", str(len(c.answer.data) - c.head.end))]]
+
+
+def uncoded(c):
+    return [[edits.without(c.request.method, c.asked_url, "Content-Encoding")]]
+
+
+def greater_limit(c):
+    size = len(c.answer.body())
+    return [[edits.body_limit(size)]] if c.body_limit < size <= 1048576 else []
+
+
+def a_server(c):
+    """A server of the origin, with the rules of one of its host."""
+    host = host_of(c.request.origin)
+    near = next((one["rules"] for one in c.scenario.servers() if host_of(one["origin"]) == host), [{"status": 200}])
+    return [[edits.server(c.request.origin, near)]]
+
+
+def mended_head(c):
+    """The head without what makes it none, and the body behind it."""
+    head, gap, body = c.answer.data.partition(b"\r\n\r\n")
+    first, *lines = head.split(b"\r\n")
+    good = [line for line in lines if answers.HEADER_LINE.fullmatch(line) and len(line) < 8192]
+    text = b"\r\n".join([first, *good[:answers.MOST_LINES // 2]]) + b"\r\n\r\n" + (body if gap else b"")
+    return [[here(c, "head", text.decode("utf-8", "replace"))]]
+
+
+# ---- faults of a request
+
+def without_user(c):
+    """The URL without user name and password, and these as a header."""
+    parts = urlsplit(joined(c.command.url, c.document["url"]))
+    user = "%s:%s" % (unquote(parts.username or ""), unquote(parts.password or ""))
+    secret = "Basic " + base64.b64encode(user.encode("utf-8")).decode("ascii")
+    headers = [*map(list, c.command.options["headers"]), ["Authorization", secret]]
+    return [[edits.request("url", without_user_info(parts.geturl())), edits.request("headers", headers)]]
+
+
+def token_method(c):
+    return [[edits.request("method", "".join(TOKEN.findall(c.command.options["method"])) or "GET")]]
+
+
+def plain_method(c):
+    return [[edits.request("method", c.plain_method)]]
+
+
+def post_or_no_body(c):
+    return [[edits.request("method", "POST")], [edits.no_body()]]
+
+
+def mended_header(c):
+    """The list of headers, each name and value mended, without those of which nothing is left."""
+    headers = [["".join(TOKEN.findall(name)), re.sub("[\0\r\n]+", " ", value)]
+               for name, value in c.command.options["headers"]]
+    return [[edits.request("headers", [pair for pair in headers if pair[0]])]]
+
+
+def secure_socket(c):
+    return [[edits.request("url", secure(c.url))]]

@@ -1,0 +1,147 @@
+"""What is to be changed, as data, and the sentence that is made of it. An edit is an object: `at` says where (preflight,
+answer, page, request or scenario), and `set`, `remove` or `add` what, with its `value`. That of an answer has the
+`method` and the `url` of its request; that of a policy its number, and `set` is the name of the directive.
+
+    {"at": "answer", "method": "PUT", "url": "https://api.test/x", "set": "Content-Type", "value": "text/css"}
+    {"at": "preflight", "method": "OPTIONS", "url": "https://api.test/x", "set": "status", "value": 204}
+    {"at": "page", "policy": 0, "set": "connect-src", "value": "'self' https://api.test"}
+    {"at": "request", "set": "mode", "value": "cors"}
+    {"at": "scenario", "set": "body_limit", "value": 1048576}
+
+`commands/advice.py` makes each of them."""
+from itertools import groupby
+
+
+def preflight(url, name, value):
+    return {"at": "preflight", "method": "OPTIONS", "url": url, "set": name, "value": value}
+
+
+def answer(method, url, name, value):
+    return {"at": "answer", "method": method, "url": url, "set": name, "value": value}
+
+
+def without(method, url, name):
+    return {"at": "answer", "method": method, "url": url, "remove": name}
+
+
+def policy(number, name, words, is_new=False):
+    """A directive with these words, in the place of the one of its name, or beside default-src."""
+    beside = {"beside": "default-src"} if is_new else {}
+    return {"at": "page", "policy": number, "set": name, "value": " ".join(words), **beside}
+
+
+def page(name, value):
+    return {"at": "page", "set": name, "value": value}
+
+
+def request(name, value):
+    return {"at": "request", "set": name, "value": value}
+
+
+def no_body():
+    return {"at": "request", "remove": "body"}
+
+
+def server(origin, rules):
+    return {"at": "scenario", "add": "server", "value": {"origin": origin, "rules": rules}}
+
+
+def body_limit(number):
+    return {"at": "scenario", "set": "body_limit", "value": number}
+
+
+# ---- sentences
+
+REQUEST = {
+    "url": "ask for %s",
+    "mode": "ask in mode %s",
+    "credentials": "ask with `credentials` `%s`",
+    "redirect": "ask with `redirect` `%s`",
+    "method": "use the method %s",
+    "crossorigin": "write `crossorigin=\"%s\"` at the element",
+    "nonce": "give the element the nonce `%s`, made anew for each answer",
+    "integrity": "write the integrity text `%s`",
+}
+
+
+def line_of(edit):
+    """A header as it is written."""
+    return "`%s: %s`" % (edit["set"], edit["value"])
+
+
+def listed(texts):
+    texts = list(texts)
+    return " and ".join(filter(None, [", ".join(texts[:-1]), texts[-1]]))
+
+
+def place(edit):
+    return edit["at"], edit.get("method"), edit.get("url")
+
+
+def sentence(changes):
+    """All ways to change it, each of which is a list of edits."""
+    return "; or ".join(filter(None, map(phrase, changes)))
+
+
+def phrase(edits):
+    """One of them. Edits of one place stand together."""
+    parts = []
+    for where, group in groupby(edits, place):
+        parts.append(PHRASES[where[0]](list(group), is_first=not parts))
+    return ", and ".join(parts)
+
+
+def of_preflight(edits, is_first):
+    status = [edit["value"] for edit in edits if edit["set"] == "status"]
+    lines = [line_of(edit) for edit in edits if edit["set"] != "status"]
+    if is_first and not status:
+        return "send " + listed(lines)
+    return "answer OPTIONS at %s with %s" % (edits[0]["url"], listed(map(str, [*status, *lines])))
+
+
+def of_answer(edits, is_first):
+    is_here = is_first and all(edit.get("set") != "Location" for edit in edits)
+    where = "" if is_here else " with the answer of %s" % edits[0]["url"]
+    gone = ["leave `%s` out" % edit["remove"] for edit in edits if "remove" in edit]
+    status = ["answer with %d" % edit["value"] for edit in edits if edit.get("set") == "status"]
+    lines = [line_of(edit) for edit in edits if edit.get("set", "status") not in ("status", "head")]
+    head = ["send a head that is one" for edit in edits if edit.get("set") == "head"]
+    return listed([*gone, *status, *head, *(["send %s%s" % (listed(lines), where)] if lines else [])])
+
+
+def of_page(edits, is_first):
+    said = [of_policy(edit) for edit in edits if "policy" in edit]
+    moved = ["serve the page as %s" % edit["value"] for edit in edits if "policy" not in edit]
+    return listed([*moved, *(["let " + listed(said)] if said else [])])
+
+
+def of_policy(edit):
+    said = "policy %d say `%s %s`" % (edit["policy"], edit["set"], edit["value"])
+    return said + " beside its `%s`" % edit["beside"] if "beside" in edit else said
+
+
+def of_request(edits, is_first):
+    return listed(map(of_one_request, edits))
+
+
+def of_one_request(edit):
+    if "remove" in edit:
+        return "leave the %s out" % edit["remove"]
+    if edit["set"] == "integrity" and not edit["value"]:
+        return "leave the integrity text out"
+    if edit["set"] == "parser":
+        return "let a script insert the element"
+    if edit["set"] == "headers":
+        lines = listed("`%s: %s`" % tuple(pair) for pair in edit["value"]) if edit["value"] else "no header"
+        return "let the script set " + lines
+    return REQUEST[edit["set"]] % edit["value"]
+
+
+def of_scenario(edits, is_first):
+    added = ["add a server %s" % edit["value"]["origin"] for edit in edits if edit.get("add") == "server"]
+    set_to = ["set `%s` to %d, in format 2" % (edit["set"], edit["value"]) for edit in edits if "set" in edit]
+    return listed(added + set_to)
+
+
+PHRASES = {"preflight": of_preflight, "answer": of_answer, "page": of_page, "request": of_request,
+           "scenario": of_scenario}

@@ -1,0 +1,92 @@
+"""What the answers to a request need, so that CORS lets it pass: the headers of the answer to its preflight and of its
+own, in values that keep what the server sends already."""
+import re
+
+from commands import edits, guards
+
+ALLOW_ORIGIN = "Access-Control-Allow-Origin"
+ALLOW_CREDENTIALS = "Access-Control-Allow-Credentials"
+ALLOW_METHODS = "Access-Control-Allow-Methods"
+ALLOW_HEADERS = "Access-Control-Allow-Headers"
+EXPOSE_HEADERS = "Access-Control-Expose-Headers"
+TOKEN = re.compile(r"[!#$%&'*+\-.^_`|~0-9A-Za-z]+")
+
+
+def items_of(value):
+    """The items of a list, without the blanks around them."""
+    return [item.strip(" \t") for item in (value or "").split(",") if item.strip(" \t")]
+
+
+def merged(value, more, as_names, known=None):
+    """A list with more items, each once, and what is no token cut into those in it, as far as they are known. Names have no
+    case."""
+    found, there = {}, []
+    for item in items_of(value):
+        pieces = [item] if TOKEN.fullmatch(item) else TOKEN.findall(item)
+        there += [one for one in pieces if one == item or known is None or one.lower() in known]
+    for item in there + list(more):
+        found.setdefault(item.lower() if as_names else item, item)
+    return ", ".join(found.values())
+
+
+class Needs:
+    """Of a request to a URL: `names` are those of its headers that ask for a preflight. `asked` and `own` are the heads
+    that answered the preflight and the request, where they came, and `always` says that there is a preflight
+    whatever the method and the names are."""
+
+    def __init__(self, url, origin, includes, method, names, asked=None, own=None, always=False):
+        self.url = url
+        self.origin = origin
+        self.includes = includes
+        self.method = method
+        self.names = names
+        self.asked = asked
+        self.own = own
+        self.always = always
+
+    def is_preflighted(self):
+        return self.always or bool(self.names) or self.method not in guards.SAFELISTED_METHODS
+
+    def of_check(self, head):
+        """What the CORS check wants of an answer. An origin that passes stays."""
+        allowed = head.get(ALLOW_ORIGIN) if head else None
+        stays = allowed == self.origin or (allowed == "*" and not self.includes)
+        credentials = [(ALLOW_CREDENTIALS, "true")] if self.includes else []
+        return [(ALLOW_ORIGIN, allowed if stays else self.origin), *credentials]
+
+    def of_own(self):
+        return self.of_check(self.own or self.asked)
+
+    def of_preflight(self):
+        methods = [] if self.method in guards.SAFELISTED_METHODS else [self.method]
+        return (self.of_check(self.asked) + self.of_list(ALLOW_METHODS, methods, False)
+                + self.of_list(ALLOW_HEADERS, self.names, True))
+
+    def of_list(self, name, wanted, as_names):
+        """A list of the preflight's answer: what is there and what is wanted, and nothing that is covered already."""
+        value = self.asked.get(name) if self.asked else None
+        there = [item.lower() if as_names else item for item in items_of(value)]
+        free = "*" in there and not self.includes
+        more = [one for one in wanted if one not in there and not (free and one != "authorization")]
+        is_bad = not all(map(TOKEN.fullmatch, items_of(value)))
+        return [(name, merged(value, more, as_names))] if wanted or is_bad else []
+
+    def preflight_edits(self):
+        """What is to be changed at the answer to the preflight, all at once."""
+        status = self.asked.status if self.asked else 0
+        wrong = [] if 200 <= status <= 299 else [edits.preflight(self.url, "status", 204)]
+        return wrong + [edits.preflight(self.url, name, value) for name, value in self.of_preflight()
+                        if not self.asked or self.asked.get(name) != value]
+
+    def own_edits(self):
+        return [edits.answer(self.method, self.url, name, value) for name, value in self.of_own()
+                if not self.own or self.own.get(name) != value]
+
+    def all_edits(self):
+        return (self.preflight_edits() if self.is_preflighted() else []) + self.own_edits()
+
+    def lines(self):
+        """All of it in two sentences."""
+        asked, own = (", ".join("`%s: %s`" % pair for pair in pairs) for pairs in (self.of_preflight(), self.of_own()))
+        return ["the answer to OPTIONS needs a status of 200 to 299, " + asked,
+                "the answer to %s needs %s" % (self.method, own)]

@@ -1,0 +1,28 @@
+"""What is to be said of a fetch whatever came of it: which of its URLs became https and why, and which of its headers
+are not sent."""
+from commands import guards
+from commands.urls import host_of, secure
+
+UPGRADES = {
+    "hsts": "its host is a known one (HSTS)",
+    "policy": "a policy of the page has `upgrade-insecure-requests`",
+    "mixed": "a secure page asks for images, audio and video over https (mixed content)",
+}
+
+
+def notes(case):
+    """All of them, in sentences, each once."""
+    return list(dict.fromkeys([*dropped(case), *upgrades(case)]))
+
+
+def dropped(case):
+    if case.command.is_load or case.result.is_fault:
+        return []
+    return guards.notes(case.command.headers, case.command.options["mode"])
+
+
+def upgrades(case):
+    for hop in case.hops:
+        cause = case.upgrade_of(hop)
+        if cause and host_of(hop.asked):
+            yield "%s became %s: %s" % (hop.asked, secure(hop.asked), UPGRADES[cause])
