@@ -2,7 +2,7 @@
 import json
 import os
 
-from commands import doubts, json_text, play_text, refusals, relay, running, streams, told
+from commands import doubts, json_text, lints, play_text, refusals, relay, running, streams, told
 from commands.scenario import Scenario
 from commands.schema import Schema
 
@@ -77,12 +77,15 @@ def why(self, name, data, given):
         return streams.complain(3, "%s: %s" % (self, failure))
     warnings = [(json_text.place_of(text, place), sentence)
                 for place, sentence in doubts.doubts(scenario, all_told.play, given.net)]
+    answered = lints.of_answers(all_told) if given.net else []
     if given.json:
         streams.write_json({
-            "warnings": [{"line": line, "column": column, "sentence": sentence} for (line, column), sentence in warnings],
+            "warnings": [{"line": line, "column": column, "sentence": sentence} for (line, column), sentence in warnings]
+            + [{"url": url, "header": header, "sentence": sentence} for url, header, sentence in answered],
             "fetches": all_told.data()})
         return 0
     streams.write_lines("# warning: %s:%d:%d: %s" % (name, line, column, sentence) for (line, column), sentence in warnings)
+    streams.write_lines("# warning: %s: %s: %s" % one for one in answered)
     for line, own in all_told.pieces():
         streams.write_play(line)
         streams.write_lines(own)

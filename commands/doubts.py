@@ -1,12 +1,14 @@
 """Warnings: what a scenario may say, and surely is meant otherwise. Each is a place of the text and a sentence."""
 from urllib.parse import urlsplit
 
+from commands import lints
+
 METHODS = ("DELETE", "GET", "HEAD", "OPTIONS", "POST", "PUT")
 
 
 def doubts(scenario, play, is_net):
     """All of them, by their places; `play` is None where it was not played."""
-    found = list(double_keys(scenario.root))
+    found = list(double_keys(scenario.root)) + lints.of_scenario(scenario)
     if not is_net:
         found += rules_without_use(scenario)
         found += servers_without_use(scenario)

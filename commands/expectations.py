@@ -3,7 +3,7 @@ import functools
 import os
 import re
 
-from commands import asking, play_text, refusals, results, running
+from commands import asking, json_text, lints, play_text, refusals, results, running
 from commands.asking import Wrong
 from commands.explanations import TABLE
 from commands.schema import Schema
@@ -14,18 +14,19 @@ KEY = re.compile(r"(?:document (\d+) )?(fetch|load) (\d+)")
 
 
 class Outcome:
-    """Of one test: its name, and lines for each thing that came otherwise."""
+    """Of one test: its name, lines for each thing that came otherwise, and what is warned of."""
 
-    def __init__(self, name, lines):
+    def __init__(self, name, lines, warnings=()):
         self.name = name
         self.lines = lines
+        self.warnings = list(warnings)
 
     @property
     def is_met(self):
         return not self.lines
 
     def data(self):
-        return {"test": self.name, "ok": self.is_met, "told": self.lines}
+        return {"test": self.name, "ok": self.is_met, "told": self.lines, "warnings": self.warnings}
 
 
 class Test:
@@ -83,20 +84,31 @@ def scenario_of(node, text, path):
         raise Wrong(refusals.Refusal(text, node.start, "/scenario", "%s: %s" % (name, error.strerror))) from error
 
 
-def outcome(path, data, is_net, patience):
-    """Plays one test."""
+def outcome(path, data, is_net, patience, is_strict=False):
+    """Plays one test. A strict one is not met where a lint finds a fault."""
     name = path or "standard input"
     try:
         test = Test(path, data)
     except Wrong as wrong:
         return Outcome(name, wrong.refusal.told(name))
     try:
-        _, _, told = asking.played(test.scenario, is_net, patience)
+        text, scenario, told = asking.played(test.scenario, is_net, patience)
     except Wrong as wrong:
         return Outcome(test.name, wrong.refusal.told(test.scenario_name))
     except (running.Failed, play_text.NoPlay) as failure:
         return Outcome(test.name, [str(failure)])
-    return Outcome(test.name, list(differences(test.expect, told)))
+    warned = list(warnings(text, scenario, told, test.scenario_name, is_net))
+    faults = [line for line, is_fault in warned if is_fault and is_strict]
+    return Outcome(test.name, list(differences(test.expect, told)) + faults, [line for line, _ in warned])
+
+
+def warnings(text, scenario, told, name, is_net):
+    """Lines, and of each whether it tells a fault: a note of what a play does not look at is none."""
+    for place, finding in lints.in_scenario(scenario):
+        line, column = json_text.place_of(text, place)
+        yield "warning: %s:%d:%d: %s" % (name, line, column, finding.sentence), not finding.lint.is_note
+    for one in lints.of_answers(told) if is_net else []:
+        yield "warning: %s: %s: %s" % one, True
 
 
 def differences(expect, told):

@@ -43,6 +43,7 @@ FORMATS = [Format("fiorrudda-scenario", "the scenarios that fetchplay plays", ["
 
 # Folders that go in whole, by the endings of their files.
 FOLDERS = {
+    "commands/lints": (".py",),
     "docs": (".md", ".png"),
     "examples": (".json", ".md", ".out", ".err", ".table"),
     "gallery": (".json", ".md", ".txt"),
