@@ -266,6 +266,7 @@ RIGHT = [
 
 # The lints of stored scenarios, which show what is wrong on purpose, each with its reason.
 ON_PURPOSE = {
+    "examples/note.json": {"hsts/sent-twice": "that the first counts is shown"},
     "examples/report-only.json": {"csp/report-only-unheard": "the play prints the violations"},
     "gallery/authorization-under-star": {"cors/authorization-under-star": "it is the question"},
     "gallery/csp-report-only": {"csp/report-only-ignores": "that it changes nothing is shown", "csp/report-only-unheard": "the play "

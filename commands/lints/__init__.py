@@ -1,33 +1,38 @@
 """Lints: what the headers of a scenario or of a server's answers, or an integrity text, say and surely mean otherwise.
 Each is an entry of a table; docs/rules/lints.md lists them, as `bin/why --lints` does."""
+import functools
+import importlib
 from itertools import islice
 
 from commands import answers
-from commands.lints import cors, csp, csp_words, hsts, integrity, referrer
 from commands.lints.entry import ANSWER, COMMAND, DOCUMENT, Finding
-from commands.lints.reading import Ask, Budget, Headers, Options
+from commands.lints.reading import TOPICS, Ask, Budget, Headers, Options
 from commands.play_text import is_preflight
 
-TABLE = csp.TABLE + csp_words.TABLE + cors.TABLE + hsts.TABLE + referrer.TABLE + integrity.TABLE
 MOST_FOUND = 200
 
 
-def by_what():
-    """The lints that look at a kind of thing, in a place."""
-    found = {}
-    for lint in TABLE:
-        for where in lint.among:
-            found.setdefault((lint.looks_at.lower(), where), []).append(lint)
-    return found
+@functools.lru_cache(None)
+def table_of(topic):
+    """A table is read where something comes that it looks at: most scenarios need one or two."""
+    return importlib.import_module("commands.lints." + topic).TABLE
 
 
-LINTS = by_what()
+def table():
+    return [lint for topic in TOPICS for lint in table_of(topic)]
+
+
+@functools.lru_cache(1024)
+def lints_of(topics, kinds, where):
+    """The lints that look at a thing, in a place."""
+    tables = [lint for topic in topics for lint in table_of(topic)]
+    return [lint for lint in tables if lint.looks_at.lower() in kinds and where in lint.among]
 
 
 def found_in(things):
     """All findings in things; the last ones of a thing where it has no other."""
     for it in things:
-        lints = [lint for kind in it.kinds for lint in LINTS.get((kind, it.where), [])]
+        lints = lints_of(it.topics, it.kinds, it.where)
         own = list(told(it, [lint for lint in lints if not lint.is_last]))
         if all(one.lint.is_note for one in own):
             own += told(it, [lint for lint in lints if lint.is_last])
@@ -43,7 +48,7 @@ def told(it, lints):
 
 def lines():
     """Each lint in a line, as `bin/why --lints` lists it."""
-    return [lint.line() for lint in TABLE]
+    return [lint.line() for lint in table()]
 
 
 # ---- scenarios

@@ -97,28 +97,34 @@ def vary_missing(field):
 
 
 ALLOW_ORIGIN = [
-    OfAnswer("cors/origin-twice", ORIGIN, is_twice, ORIGIN + " stands twice, and the two are joined to a value that is no origin",
-             "send one"),
-    OfAnswer("cors/origin-quotes", ORIGIN, in_quotes, "the origin is in quotes, and no page's origin has any", "write `{meant}`"),
+    OfAnswer("cors/origin-twice", ORIGIN, is_twice,
+             ORIGIN + " stands twice, and the two are joined to a value that is no origin", "send one"),
+    OfAnswer("cors/origin-quotes", ORIGIN, in_quotes, "the origin is in quotes, and no page's origin has any",
+             "write `{meant}`"),
     OfAnswer("cors/origin-list", ORIGIN, is_list, "`{it.value}` is a list, and the value is one origin",
              "send the one that the request's Origin says, where it is one of yours, and `Vary: Origin`"),
     OfAnswer("cors/origin-path", ORIGIN, with_path, "`{it.value}` goes on behind the origin", "write `{meant}`"),
-    OfAnswer("cors/origin-capitals", ORIGIN, in_capitals, "`{it.value}` has capitals, and no page's origin has any", "write `{meant}`"),
-    OfAnswer("cors/origin-without-scheme", ORIGIN, without_scheme, "`{it.value}` has no scheme", "write `{meant}`"),
-    OfAnswer("cors/origin-default-port", ORIGIN, default_port, "`{it.value}` names the port that its scheme has, and no page's origin does",
+    OfAnswer("cors/origin-capitals", ORIGIN, in_capitals, "`{it.value}` has capitals, and no page's origin has any",
              "write `{meant}`"),
-    OfAnswer("cors/origin-null", ORIGIN, is_null, "any site can make a frame whose origin is `null`, so this lets all of them read",
+    OfAnswer("cors/origin-without-scheme", ORIGIN, without_scheme, "`{it.value}` has no scheme", "write `{meant}`"),
+    OfAnswer("cors/origin-default-port", ORIGIN, default_port,
+             "`{it.value}` names the port that its scheme has, and no page's origin does", "write `{meant}`"),
+    OfAnswer("cors/origin-null", ORIGIN, is_null,
+             "any site can make a frame whose origin is `null`, so this lets all of them read",
              "send the origins that you trust"),
     OfAnswer("cors/origin-pattern", ORIGIN, pattern, "`{it.value}` is a pattern, and only `*` alone is one",
              "send the origin that the request's Origin says, where it is one of yours, and `Vary: Origin`"),
-    OfAnswer("cors/origin-unfilled", ORIGIN, unfilled, "`{it.value}` is a variable that nothing has filled in", "send the origin itself"),
-    OfAnswer("cors/origin-own", ORIGIN, own_origin, "`{it.value}` is the server's own origin, and not that of a page that asks",
-             "send the page's origin"),
-    OfAnswer("cors/no-origin", ORIGIN, no_origin, "`{it.value}` is no origin", "write scheme, `://` and host, such as `https://app.example`",
-             is_last=True),
-    OfAnswer("cors/star-with-credentials", ORIGIN, star_with_credentials, "`*` lets no request with credentials read, and "
-             "Access-Control-Allow-Credentials stands beside it", "send the origin; or leave Access-Control-Allow-Credentials out"),
-    OfAnswer("cors/vary-missing", ORIGIN, vary_missing, "this answer is for one origin, and where others ask too a cache gives it to them",
+    OfAnswer("cors/origin-unfilled", ORIGIN, unfilled, "`{it.value}` is a variable that nothing has filled in",
+             "send the origin itself"),
+    OfAnswer("cors/origin-own", ORIGIN, own_origin,
+             "`{it.value}` is the server's own origin, and not that of a page that asks", "send the page's origin"),
+    OfAnswer("cors/no-origin", ORIGIN, no_origin, "`{it.value}` is no origin",
+             "write scheme, `://` and host, such as `https://app.example`", is_last=True),
+    OfAnswer("cors/star-with-credentials", ORIGIN, star_with_credentials,
+             "`*` lets no request with credentials read, and Access-Control-Allow-Credentials stands beside it",
+             "send the origin; or leave Access-Control-Allow-Credentials out"),
+    OfAnswer("cors/vary-missing", ORIGIN, vary_missing,
+             "this answer is for one origin, and where others ask too a cache gives it to them",
              "send `Vary: Origin` with it"),
 ]
 
@@ -180,35 +186,42 @@ def lists(name):
     """What three headers have in common."""
     short = name.replace("Access-Control-", "").lower()
     return [
-        OfAnswer("cors/%s-quotes" % short, name, quoted_item, "`{meant}` has quotes or brackets, and is no token", "write the names alone"),
+        OfAnswer("cors/%s-quotes" % short, name, quoted_item, "`{meant}` has quotes or brackets, and is no token",
+                 "write the names alone"),
         OfAnswer("cors/%s-without-commas" % short, name, joined_items, "`{meant}` is one item, and no token",
-             "put commas between names, and no blank into one"),
-        OfAnswer("cors/%s-no-token" % short, name, bad_item, "`{meant}` is no token", "write a name's letters alone", is_last=True),
+                 "put commas between names, and no blank into one"),
+        OfAnswer("cors/%s-no-token" % short, name, bad_item, "`{meant}` is no token", "write a name's letters alone",
+                 is_last=True),
     ]
 
 
 VALUES = [
-    OfAnswer("cors/credentials-not-true", CREDENTIALS, not_true, "`{it.value}` is none of the values of " + CREDENTIALS,
+    OfAnswer("cors/credentials-not-true", CREDENTIALS, not_true,
+             "`{it.value}` is none of the values of " + CREDENTIALS,
              "write `true`, in lower case; or leave the header out"),
-    OfAnswer("cors/credentials-twice", CREDENTIALS, is_twice, CREDENTIALS + " stands twice, and the two are joined to what is not `true`",
-             "send one"),
+    OfAnswer("cors/credentials-twice", CREDENTIALS, is_twice,
+             CREDENTIALS + " stands twice, and the two are joined to what is not `true`", "send one"),
     *lists(METHODS), *lists(HEADERS), *lists(EXPOSED),
-    OfAnswer("cors/method-in-small-letters", METHODS, small_method, "the case of a method counts, and `{meant}` is listed in other letters",
-             "write `{meant}`"),
+    OfAnswer("cors/method-in-small-letters", METHODS, small_method,
+             "the case of a method counts, and `{meant}` is listed in other letters", "write `{meant}`"),
     OfAnswer("cors/methods-star-with-credentials", METHODS, star_with_others,
-             "`*` allows a request with credentials no method, and browsers differ in what they learn of it", "list the methods"),
+             "`*` allows a request with credentials no method, and browsers differ in what they learn of it",
+             "list the methods"),
     OfAnswer("cors/headers-star-with-credentials", HEADERS, star_with_others,
-             "`*` allows a request with credentials no header, and browsers differ in what they learn of it", "list the names"),
+             "`*` allows a request with credentials no header, and browsers differ in what they learn of it",
+             "list the names"),
     OfAnswer("cors/exposed-star-with-credentials", EXPOSED, star_with_others,
              "`*` exposes nothing to a request with credentials", "list the names"),
     OfAnswer("cors/authorization-under-star", HEADERS, authorization_under_star,
              "`*` does not allow Authorization, which a page sends here", "write `*, Authorization`"),
     OfAnswer("cors/set-cookie-exposed", EXPOSED, set_cookie, "no script ever sees `{meant}`", "take it out"),
-    OfAnswer("cors/max-age-no-number", AGE, no_number, "`{meant}` is no number of seconds", "write digits alone, such as `600`, and send one"),
+    OfAnswer("cors/max-age-no-number", AGE, no_number, "`{meant}` is no number of seconds",
+             "write digits alone, such as `600`, and send one"),
     OfAnswer("cors/max-age-long", AGE, long_age, "no browser keeps an answer to a preflight for {it.value} seconds",
              "write at most `86400`, which Firefox keeps; Chromium keeps `7200`"),
     OfAnswer("cors/resource-policy-word", RESOURCE, no_resource_policy,
-             "`{meant}` is no value of " + RESOURCE + ", and protects nothing", "write `same-origin`, `same-site` or `cross-origin`"),
+             "`{meant}` is no value of " + RESOURCE + ", and protects nothing",
+             "write `same-origin`, `same-site` or `cross-origin`"),
 ]
 
 
@@ -216,7 +229,7 @@ VALUES = [
 
 def misspelt(field):
     is_known = field.name in OTHERS or is_answer_header(field)
-    return not is_known and re.search("access|allow|control", field.name) and nearest(field.name, NAMES)
+    return None if is_known else nearest(field.name, NAMES)
 
 
 def is_request_header(field):
@@ -228,14 +241,17 @@ def is_answer_header(field):
 
 
 HEADER_NAMES = [
-    Lint("cors/header-misspelt", "a header's name", misspelt, "`{it.header}` is no header of CORS", "write `{meant}`", (ANSWER,)),
-    Lint("cors/request-header", "a header's name", is_request_header, "`{it.header}` is a header of requests, and says nothing in an answer",
+    Lint("cors/header-misspelt", "a header's name", misspelt, "`{it.header}` is no header of CORS", "write `{meant}`",
+         (ANSWER,)),
+    Lint("cors/request-header", "a header's name", is_request_header,
+         "`{it.header}` is a header of requests, and says nothing in an answer",
          "send Access-Control-Allow-Methods or Access-Control-Allow-Headers", (ANSWER,)),
     Lint("cors/on-the-page", "a header's name", lambda field: field.name == ORIGIN.lower(),
-         "`{it.header}` of a page says nothing of what its scripts may read", "send it with the answers of the server that they ask", (DOCUMENT,), is_note=True),
+         "`{it.header}` of a page says nothing of what its scripts may read",
+         "send it with the answers of the server that they ask", (DOCUMENT,), is_note=True),
     Lint("cors/in-a-request", "a header's name", is_answer_header,
-         "`{it.header}` is a header of answers, and in a request it only leads to a preflight", "take it out, and let the server send it",
-         (COMMAND,)),
+         "`{it.header}` is a header of answers, and in a request it only leads to a preflight",
+         "take it out, and let the server send it", (COMMAND,)),
 ]
 
 TABLE = ALLOW_ORIGIN + VALUES + HEADER_NAMES

@@ -3,7 +3,8 @@ import re
 
 from commands.lints import grammar
 from commands.lints.entry import DOCUMENT, Lint, nearest, write
-from commands.lints.reading import PASTED, POLICY, REPORT_ONLY
+from commands.lints.policies import PASTED
+from commands.lints.reading import POLICY, REPORT_ONLY
 
 OBSOLETE_NAMES = ("x-content-security-policy", "x-content-security-policy-report-only", "x-webkit-csp",
                   "x-webkit-csp-report-only")
@@ -32,9 +33,7 @@ NOT_PLAYED = {
 # ---- headers
 
 def misspelt_header(field):
-    if field.name in (POLICY, REPORT_ONLY, *OBSOLETE_NAMES) or not ("sec" in field.name or "policy" in field.name):
-        return None
-    meant = nearest(field.name, (POLICY, REPORT_ONLY)) if re.search("^.?c.*(sec|pol)", field.name) else None
+    meant = None if field.name in (POLICY, REPORT_ONLY, *OBSOLETE_NAMES) else nearest(field.name, (POLICY, REPORT_ONLY))
     return {POLICY: "Content-Security-Policy", REPORT_ONLY: "Content-Security-Policy-Report-Only"}.get(meant)
 
 
@@ -68,15 +67,15 @@ def widened(field):
 HEADERS = [
     Lint("csp/header-misspelt", "a header's name", misspelt_header,
          "`{it.header}` is no header that a browser reads a policy of", "write `{meant}`"),
-    Lint("csp/header-obsolete", "a header's name", obsolete_header,
-         "no browser of today reads `{it.header}`", "send `{meant}`, and leave this one out"),
+    Lint("csp/header-obsolete", "a header's name", obsolete_header, "no browser of today reads `{it.header}`",
+         "send `{meant}`, and leave this one out"),
     Lint("csp/name-in-value", "a policy's header", name_in_value,
          "the value begins with a header's name or with HTML, which is no directive", "write the policy alone"),
     Lint("csp/policy-in-quotes", "a policy's header", quoted_value,
          "the whole policy is in quotes, so its first directive is unknown", "write it without them"),
     Lint("csp/comma-for-semicolon", "a policy's header", widened,
-         "a comma begins another policy, and each must let a request through: `{meant}` does not widen `default-src`, which stands "
-         "in another", "write semicolons between the directives"),
+         "a comma begins another policy, and each must let a request through: `{meant}` does not widen "
+         "`default-src`, which stands in another", "write semicolons between the directives"),
 ]
 
 
@@ -106,14 +105,13 @@ def comma(policy):
 
 
 POLICIES = [
-    Lint("csp/does-nothing", "a policy", does_nothing,
-         "nothing in this policy restricts anything", "add a directive such as `default-src 'self'`"),
+    Lint("csp/does-nothing", "a policy", does_nothing, "nothing in this policy restricts anything",
+         "add a directive such as `default-src 'self'`"),
     Lint("csp/report-only-unheard", "a policy", is_unheard,
          "a report-only policy blocks nothing, and this one names no endpoint, so nobody is told of its violations",
          "add `report-uri` and `report-to`; or send it as Content-Security-Policy"),
-    Lint("csp/comma", "a policy", comma,
-         "a comma ends a policy, and `{meant}` stands behind it as another", "write a blank between sources, and a semicolon between "
-         "directives"),
+    Lint("csp/comma", "a policy", comma, "a comma ends a policy, and `{meant}` stands behind it as another",
+         "write a blank between sources, and a semicolon between directives"),
 ]
 
 
@@ -228,40 +226,47 @@ DIRECTIVES = [
     Lint("csp/directive-with-sign", "a directive", with_sign,
          "`{it.written}` is no directive: a blank alone stands behind its name", "write `{meant}`"),
     Lint("csp/source-as-directive", "a directive", source_as_directive,
-         "a semicolon ends a directive, so `{it.written}` stands as the name of another", "take the semicolon before it out"),
+         "a semicolon ends a directive, so `{it.written}` stands as the name of another",
+         "take the semicolon before it out"),
     Lint("csp/not-ascii", "a directive", beyond_ascii,
-         "`{it.name}` is skipped, since it has `{meant}` in it, which is not ASCII", "write ASCII alone, and straight single quotes"),
-    Lint("csp/unknown-directive", "a directive", unknown_directive,
-         "`{it.written}` is no directive, and is skipped", "{meant}", is_last=True),
+         "`{it.name}` is skipped, since it has `{meant}` in it, which is not ASCII",
+         "write ASCII alone, and straight single quotes"),
+    Lint("csp/unknown-directive", "a directive", unknown_directive, "`{it.written}` is no directive, and is skipped",
+         "{meant}", is_last=True),
     Lint("csp/directive-twice", "a directive", lambda directive: directive.is_again,
          "`{it.name}` stands twice in this policy, and the first one counts", "write all its words into one"),
-    Lint("csp/no-words", "a directive", needs_words,
-         "`{it.name}` has no words", "write them, such as `'none'` where nothing is let through; or take it out"),
-    Lint("csp/needless-words", "a directive", takes_none,
-         "`{it.name}` takes no words", "take out what stands behind it; or put a semicolon before it"),
+    Lint("csp/no-words", "a directive", needs_words, "`{it.name}` has no words",
+         "write them, such as `'none'` where nothing is let through; or take it out"),
+    Lint("csp/needless-words", "a directive", takes_none, "`{it.name}` takes no words",
+         "take out what stands behind it; or put a semicolon before it"),
     Lint("csp/none-beside-others", "a directive", none_beside_others,
-         "`'none'` in `{it.name}` is ignored, since others stand beside it", "take `'none'` out; or take the others out"),
+         "`'none'` in `{it.name}` is ignored, since others stand beside it",
+         "take `'none'` out; or take the others out"),
     Lint("csp/star-beside-others", "a directive", star_beside_others,
-         "`*` in `{it.name}` lets all of http and https through, `{meant}` too", "take `*` out; or take the others out"),
+         "`*` in `{it.name}` lets all of http and https through, `{meant}` too",
+         "take `*` out; or take the others out"),
     Lint("csp/unsafe-inline-ignored", "a directive", ignored_inline,
          "`'unsafe-inline'` in `{it.name}` is ignored, since a nonce or a hash stands beside it", "take it out"),
     Lint("csp/strict-dynamic-alone", "a directive", strict_dynamic_alone,
-         "`'strict-dynamic'` in `{it.name}` trusts what a script with a nonce or a hash loads, and there is neither, so no script is "
-         "let through", "add `'nonce-..'`, with a value that is new in each answer"),
+         "`'strict-dynamic'` in `{it.name}` trusts what a script with a nonce or a hash loads, and there is neither, "
+         "so no script is let through", "add `'nonce-..'`, with a value that is new in each answer"),
     Lint("csp/unsafe-hashes-alone", "a directive", hashes_alone,
-         "`'unsafe-hashes'` in `{it.name}` says that hashes count for attributes, and there is none", "add the hashes; or take it out"),
+         "`'unsafe-hashes'` in `{it.name}` says that hashes count for attributes, and there is none",
+         "add the hashes; or take it out"),
     Lint("csp/report-only-ignores", "a directive", ignored_in_report_only,
          "`{it.name}` has no effect in a report-only policy", "send it in Content-Security-Policy"),
-    Lint("csp/one-word-alone", "a directive", is_many,
-         "`{it.name}` takes one word", "write `{meant}` alone; or put a semicolon where another directive begins"),
+    Lint("csp/one-word-alone", "a directive", is_many, "`{it.name}` takes one word",
+         "write `{meant}` alone; or put a semicolon where another directive begins"),
     Lint("csp/url-in-report-to", "a directive", url_in_report_to,
-         "`report-to` takes a name that the header Reporting-Endpoints gives to a URL", "write the URL behind `report-uri`; or name it"),
+         "`report-to` takes a name that the header Reporting-Endpoints gives to a URL",
+         "write the URL behind `report-uri`; or name it"),
     Lint("csp/name-in-report-uri", "a directive", group_in_report_uri,
          "`report-uri` takes URLs, and `{meant}` is a name of Reporting-Endpoints", "write `report-to {meant}`"),
     Lint("csp/report-to-unknown", "a directive", unknown_group,
-         "Reporting-Endpoints does not have the name `{meant}`, so no report is sent there", "add it: `Reporting-Endpoints: "
-         "{meant}=\"https://..\"`"),
-    *(Lint("csp/obsolete-" + name, "a directive", obsolete(name), "`%s` is not in the standard any more" % name, change)
+         "Reporting-Endpoints does not have the name `{meant}`, so no report is sent there",
+         "add it: `Reporting-Endpoints: {meant}=\"https://..\"`"),
+    *(Lint("csp/obsolete-" + name, "a directive", obsolete(name), "`%s` is not in the standard any more" % name,
+           change)
       for name, change in sorted(grammar.OBSOLETE.items())),
 ]
 

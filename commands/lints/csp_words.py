@@ -4,6 +4,8 @@ from urllib.parse import unquote, urlsplit
 
 from commands.lints import grammar
 from commands.lints.entry import DOCUMENT, Lint, nearest, write
+from commands.lints.reading import is_address, is_loopback
+from commands.scenario import origin_of
 
 QUOTES = "\"`"
 
@@ -50,16 +52,19 @@ def quoted(word):
 def insecure_report(word):
     if word.directive.name != "report-uri" or not word.lower.startswith("http://"):
         return None
-    return word.policy.headers.scheme == "https" and not grammar.is_loopback(word.place) and "https" + word.text[4:]
+    return word.policy.headers.scheme == "https" and not is_loopback(word.place) and "https" + word.text[4:]
 
 
 WORDS = [
     Lint("csp/semicolon-missing", "a word", missing_semicolon,
-         "`{it.text}` stands as a word of `{it.directive.name}`, and is the name of a directive", "put a semicolon before `{it.text}`"),
+         "`{it.text}` stands as a word of `{it.directive.name}`, and is the name of a directive",
+         "put a semicolon before `{it.text}`"),
     Lint("csp/sandbox-word", "a word", unknown_sandbox, "`{it.text}` is no word of `sandbox`", "{meant}"),
-    Lint("csp/trusted-sink", "a word", unknown_sink, "`{it.text}` is no word of `require-trusted-types-for`", "write `'script'`"),
+    Lint("csp/trusted-sink", "a word", unknown_sink, "`{it.text}` is no word of `require-trusted-types-for`",
+         "write `'script'`"),
     Lint("csp/trusted-word", "a word", unknown_trusted, "`{it.text}` is no keyword of `trusted-types`", "{meant}"),
-    Lint("csp/webrtc-word", "a word", unknown_webrtc, "`{it.text}` is no word of `webrtc`", "write `'allow'` or `'block'`"),
+    Lint("csp/webrtc-word", "a word", unknown_webrtc, "`{it.text}` is no word of `webrtc`",
+         "write `'allow'` or `'block'`"),
     Lint("csp/report-over-http", "a word", insecure_report,
          "a page over https sends no report to `{it.text}`, which is mixed content", "write `{meant}`"),
 ]
@@ -130,18 +135,24 @@ def bare_scheme(word):
 
 
 QUOTING = [
-    Lint("csp/keyword-unquoted", "a source", bare_keyword, "`{it.text}` without quotes is a host's name", "write `{meant}`"),
-    Lint("csp/nonce-unquoted", "a source", bare_nonce, "`{it.text}` without quotes is a host's name, and no nonce", "write `{meant}`"),
+    Lint("csp/keyword-unquoted", "a source", bare_keyword, "`{it.text}` without quotes is a host's name",
+         "write `{meant}`"),
+    Lint("csp/nonce-unquoted", "a source", bare_nonce, "`{it.text}` without quotes is a host's name, and no nonce",
+         "write `{meant}`"),
     Lint("csp/hash-unquoted", "a source", bare_hash, "`{it.text}` without quotes is no hash", "write `{meant}`"),
-    Lint("csp/other-quotes", "a source", other_quotes, "`{it.text}` is in quotes that mean nothing in a policy", "write `{meant}`"),
+    Lint("csp/other-quotes", "a source", other_quotes, "`{it.text}` is in quotes that mean nothing in a policy",
+         "write `{meant}`"),
     Lint("csp/quote-missing", "a source", half_quoted, "`{it.text}` has a quote on one side alone", "{meant}"),
-    Lint("csp/quoted-with-more", "a source", quoted_with_more,
-         "`{it.text}` goes on behind its quotes, and is no word", "put a blank behind `{meant}`; or write it alone"),
-    Lint("csp/unknown-keyword", "a source", unknown_keyword, "`{it.text}` is no keyword, and matches nothing", "{meant}"),
-    Lint("csp/host-quoted", "a source", quoted_host, "`{it.text}` matches nothing: hosts and schemes have no quotes", "write `{meant}`"),
+    Lint("csp/quoted-with-more", "a source", quoted_with_more, "`{it.text}` goes on behind its quotes, and is no word",
+         "put a blank behind `{meant}`; or write it alone"),
+    Lint("csp/unknown-keyword", "a source", unknown_keyword, "`{it.text}` is no keyword, and matches nothing",
+         "{meant}"),
+    Lint("csp/host-quoted", "a source", quoted_host, "`{it.text}` matches nothing: hosts and schemes have no quotes",
+         "write `{meant}`"),
     Lint("csp/unsafe-allow-redirects", "a source", redirects_keyword,
          "`{it.text}` goes with `navigate-to`, which is not in the standard any more", "take it out"),
-    Lint("csp/scheme-without-colon", "a source", bare_scheme, "`{it.text}` without a colon is a host's name", "write `{meant}`"),
+    Lint("csp/scheme-without-colon", "a source", bare_scheme, "`{it.text}` without a colon is a host's name",
+         "write `{meant}`"),
 ]
 
 
@@ -187,14 +198,18 @@ def dynamic_elsewhere(word):
 
 PROOFS = [
     Lint("csp/nonce-characters", "a source", bad_nonce,
-         "`{it.text}` matches nothing: a nonce is letters, digits, `+` and `/`, as base64 has them", "write such a value, new in each answer"),
-    Lint("csp/hash-hex", "a source", hash_in_hex, "`{it.text}` is in hexadecimal digits, and matches nothing", "write the digest in base64"),
-    Lint("csp/hash-length", "a source", bad_hash,
-         "`{it.text}` is no digest of {meant} in base64, and matches nothing", "make it anew, and write all of it, its `=` too"),
+         "`{it.text}` matches nothing: a nonce is letters, digits, `+` and `/`, as base64 has them",
+         "write such a value, new in each answer"),
+    Lint("csp/hash-hex", "a source", hash_in_hex, "`{it.text}` is in hexadecimal digits, and matches nothing",
+         "write the digest in base64"),
+    Lint("csp/hash-length", "a source", bad_hash, "`{it.text}` is no digest of {meant} in base64, and matches nothing",
+         "make it anew, and write all of it, its `=` too"),
     Lint("csp/hash-algorithm", "a source", other_algorithm,
-         "`{it.text}` is of no algorithm that a policy knows, and matches nothing", "write `'{meant}-..'`, with a digest of that"),
+         "`{it.text}` is of no algorithm that a policy knows, and matches nothing",
+         "write `'{meant}-..'`, with a digest of that"),
     Lint("csp/nonce-elsewhere", "a source", proof_elsewhere,
-         "a nonce or a hash counts for scripts and styles alone, and means nothing in `{it.directive.name}`", "take `{it.text}` out"),
+         "a nonce or a hash counts for scripts and styles alone, and means nothing in `{it.directive.name}`",
+         "take `{it.text}` out"),
     Lint("csp/unsafe-elsewhere", "a source", code_elsewhere,
          "`{it.text}` is of scripts and styles, and means nothing in `{it.directive.name}`", "take it out"),
     Lint("csp/strict-dynamic-elsewhere", "a source", dynamic_elsewhere,
@@ -213,7 +228,7 @@ def insecure_source(word):
     found = re.match(r"(http|ws):", word.lower)
     if not found or word.policy.headers.scheme != "https" or word.directive.name not in grammar.FETCH:
         return None
-    if "strict-dynamic" in word.directive.inner or grammar.is_loopback(word.place):
+    if "strict-dynamic" in word.directive.inner or is_loopback(word.place):
         return None
     return found.group(1) + "s" + word.text[len(found.group(1)):]
 
@@ -244,13 +259,7 @@ def folder(word):
     path = word.host and word.host.group("path")
     if not path or path.endswith("/"):
         return None
-    below = [ask.url for ask in word.asks() if is_below(ask.url, word, path)]
-    return below[0] if below else None
-
-
-def is_below(url, word, path):
-    parts = urlsplit(url)
-    return (parts.hostname or "") == word.place and unquote(parts.path).startswith(unquote(path) + "/")
+    return next((url for url in word.asks() if unquote(urlsplit(url).path).startswith(unquote(path) + "/")), None)
 
 
 def scheme_alone(word):
@@ -269,7 +278,7 @@ def one_slash(word):
 
 
 def other_address(word):
-    return is_url(word) and grammar.is_address(word.place) and word.place != "127.0.0.1"
+    return is_url(word) and is_address(word.place) and word.place != "127.0.0.1"
 
 
 def loopback_address(word):
@@ -282,7 +291,7 @@ def local_without_scheme(word):
     if not found or word.policy.headers.scheme != "https":
         return None
     origin = "http://localhost" + (found.group(1) or "")
-    return any(ask.origin == origin for ask in word.asks()) and "http://" + word.text
+    return any(origin_of(url) == origin for url in word.asks()) and "http://" + word.text
 
 
 def data_scripts(word):
@@ -317,29 +326,34 @@ URLS = [
     Lint("csp/wildcard-inside", "a source", wildcard_inside,
          "`{it.text}` matches nothing: `*` stands for all labels before a host's first dot, and nowhere else",
          "write `*.` and the domain, or each host"),
-    Lint("csp/wildcard-scheme", "a source", wildcard_scheme,
-         "`{it.text}` matches nothing: no `*` stands for a scheme", "write `{meant}`, or the host without a scheme"),
-    Lint("csp/wildcard-path", "a source", wildcard_path,
-         "`*` in the path of `{it.text}` stands for itself", "write `{meant}`, which has all that is below it"),
+    Lint("csp/wildcard-scheme", "a source", wildcard_scheme, "`{it.text}` matches nothing: no `*` stands for a scheme",
+         "write `{meant}`, or the host without a scheme"),
+    Lint("csp/wildcard-path", "a source", wildcard_path, "`*` in the path of `{it.text}` stands for itself",
+         "write `{meant}`, which has all that is below it"),
     Lint("csp/folder-without-slash", "a source", folder,
          "`{it.text}` is this path alone, and the page asks for {meant}", "write `{it.text}/`"),
-    Lint("csp/scheme-alone", "a source", scheme_alone, "`{it.text}` has no host, and matches nothing", "write `{meant}`"),
-    Lint("csp/star-behind-scheme", "a source", star_behind_scheme, "`{it.text}` is a host with any port", "write `{meant}`"),
-    Lint("csp/one-slash", "a source", one_slash, "`{it.text}` is no word: two slashes stand behind the scheme", "write `{meant}`"),
+    Lint("csp/scheme-alone", "a source", scheme_alone, "`{it.text}` has no host, and matches nothing",
+         "write `{meant}`"),
+    Lint("csp/star-behind-scheme", "a source", star_behind_scheme, "`{it.text}` is a host with any port",
+         "write `{meant}`"),
+    Lint("csp/one-slash", "a source", one_slash, "`{it.text}` is no word: two slashes stand behind the scheme",
+         "write `{meant}`"),
     Lint("csp/address", "a source", other_address,
-         "by CSP 3 an IP address matches nothing but `127.0.0.1`; browsers differ, and this engine matches none", "write a domain for {it.place}"),
+         "by CSP 3 an IP address matches nothing but `127.0.0.1`; browsers differ, and this engine matches none",
+         "write a domain for {it.place}"),
     Lint("csp/loopback-address", "a source", loopback_address,
-         "browsers match `127.0.0.1`, as CSP 3 has it, and this engine matches no IP address", "write `localhost`, and ask for that",
-         (DOCUMENT,), is_note=True),
+         "browsers match `127.0.0.1`, as CSP 3 has it, and this engine matches no IP address",
+         "write `localhost`, and ask for that", (DOCUMENT,), is_note=True),
     Lint("csp/localhost-without-scheme", "a source", local_without_scheme,
          "`{it.text}` has the page's scheme, https, and the page asks for it over http", "write `{meant}`"),
     Lint("csp/data-in-scripts", "a source", data_scripts,
-         "`data:` lets whoever can write into the page run any script by its URL", "take it out; of `default-src` by a `script-src` without it"),
+         "`data:` lets whoever can write into the page run any script by its URL",
+         "take it out; of `default-src` by a `script-src` without it"),
     Lint("csp/ancestor-path", "a source", ancestor_path,
          "of an ancestor the origin alone is looked at, so `{it.text}` with its path matches none", "write `{meant}`"),
     Lint("csp/source-twice", "a source", is_again, "`{it.text}` stands twice in `{it.directive.name}`", "take one out"),
-    Lint("csp/no-word", "a source", no_word, "`{it.text}` is no word of the grammar, and matches nothing", "write a host, such as "
-         "`https://cdn.example`, a scheme or a keyword", is_last=True),
+    Lint("csp/no-word", "a source", no_word, "`{it.text}` is no word of the grammar, and matches nothing",
+         "write a host, such as `https://cdn.example`, a scheme or a keyword", is_last=True),
 ]
 
 TABLE = WORDS + QUOTING + PROOFS + URLS

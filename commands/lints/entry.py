@@ -1,19 +1,20 @@
 """An entry of the table of lints."""
 import difflib
+import functools
 import re
-import string
 
 # Where a header or an option stands.
 DOCUMENT, ANSWER, COMMAND = "document", "answer", "command"
 LONGEST = 120  # characters of what is quoted
 
 
-class Shortened(string.Formatter):
-    """Fills in texts, of those that are long their beginning."""
-
-    def format_field(self, value, spec):
-        text = str(value)
-        return text if len(text) <= LONGEST else text[:LONGEST] + ".."
+def filled(text, it, meant):
+    """A sentence with what stands for its names; of what is long the beginning."""
+    def value(found):
+        first, *names = found.group(1).split(".")
+        told = str(meant if first == "meant" else functools.reduce(getattr, names, it))
+        return told if len(told) <= LONGEST else told[:LONGEST] + ".."
+    return re.sub(r"\{([\w.]+)\}", value, text)
 
 
 class Lint:
@@ -38,17 +39,18 @@ class Lint:
         found = self.find(it)
         if found is None or found is False:
             return None
-        return Shortened().format("%s: %s" % (self.wrong, self.fix), it=it, meant=found)
+        return filled("%s: %s" % (self.wrong, self.fix), it, found)
 
     def line(self):
         """As `bin/why --lints` lists it: words in capitals stand for what is told of the text."""
-        text = re.sub(r"\{(?:\w+\.)*(\w+)\}", lambda found: found.group(1).upper(), "%s: %s" % (self.wrong, self.fix))
+        sentence = "%s: %s" % (self.wrong, self.fix)
+        text = re.sub(r"\{(?:\w+\.)*(\w+)\}", lambda found: found.group(1).upper(), sentence)
         return "%s (%s): %s" % (self.name, self.looks_at, text)
 
 
 class Finding:
-    """What a lint says of a thing, and where that stands: the number of a header or the key of an option, and in `header` the
-    header's name or that key."""
+    """What a lint says of a thing, and where that stands: the number of a header or the key of an option, and in
+    `header` the header's name or that key."""
 
     def __init__(self, lint, it, sentence):
         self.lint = lint
@@ -58,8 +60,9 @@ class Finding:
         self.sentence = sentence
 
 
+@functools.lru_cache(4096)
 def nearest(word, known):
-    """The known word that is meant, or None."""
+    """The one of known words that is meant, or None."""
     def plain(text):
         return re.sub(r"[-_ ]", "", text).lower()
     names = {plain(one): one for one in known}

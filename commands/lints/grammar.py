@@ -52,17 +52,6 @@ BYTE = r"(?:[A-Za-z0-9._~!$&'()*+=:@%s-]|%%[0-9A-Fa-f]{2})"
 PATH = re.compile("/(?:%s%s*)?" % (BYTE % "", BYTE % "/"))
 
 
-def is_address(host):
-    """Whether a host is an IP address, as URLs have it."""
-    return re.fullmatch(r"\d+(?:\.\d+){3}", host) is not None or host.startswith("[")
-
-
-def is_loopback(host):
-    """Whether a host is this machine's own, which is trusted over http."""
-    is_local = host == "localhost" or host.endswith(".localhost")
-    return is_local or host == "[::1]" or re.fullmatch(r"127(?:\.\d+){3}", host) is not None
-
-
 def is_digest(algorithm, value):
     """Whether a text may be the digest of an algorithm in base64."""
     size = DIGESTS[algorithm.lower()]

@@ -2,8 +2,8 @@
 import functools
 import re
 
-from commands.lints import grammar
 from commands.lints.entry import ANSWER, DOCUMENT, Lint, nearest
+from commands.lints.reading import is_address, is_loopback
 
 HEADER = "Strict-Transport-Security"
 KNOWN = ("max-age", "includesubdomains", "preload")
@@ -99,7 +99,7 @@ def over_http(field):
 
 def of_address(field):
     host = field.headers.host
-    return field.headers.scheme == "https" and (grammar.is_address(host) or grammar.is_loopback(host)) and host
+    return field.headers.scheme == "https" and (is_address(host) or is_loopback(host)) and host
 
 
 def subdomains_value(field):
@@ -133,9 +133,8 @@ def no_field(field):
 
 
 def misspelt(field):
-    if field.name == HEADER.lower() or not re.search("^.?strict|^hsts$|transport-sec", field.name):
-        return None
-    return field.name == "hsts" or nearest(field.name, [HEADER]) is not None
+    is_other = field.name != HEADER.lower()
+    return is_other and (field.name == "hsts" or nearest(field.name, (HEADER,)) is not None)
 
 
 def on_page(field):
@@ -146,28 +145,42 @@ IGNORED = "the header is ignored: "
 OfAnswer = functools.partial(Lint, among=(ANSWER,))
 TABLE = [
     OfAnswer("hsts/value-in-quotes", HEADER, in_quotes, IGNORED + "its whole value is in quotes", "write `{meant}`"),
-    OfAnswer("hsts/comma", HEADER, with_comma, IGNORED + "a comma stands in it", "write a semicolon between directives, and digits alone"),
+    OfAnswer("hsts/comma", HEADER, with_comma, IGNORED + "a comma stands in it",
+             "write a semicolon between directives, and digits alone"),
     OfAnswer("hsts/colon", HEADER, with_colon, IGNORED + "a colon stands behind max-age", "write `max-age=31536000`"),
     OfAnswer("hsts/max-age-missing", HEADER, no_age, IGNORED + "it has no max-age", "write `max-age=31536000`"),
-    OfAnswer("hsts/max-age-quotes", HEADER, quoted_age, IGNORED + "the quotes of max-age are none that fit", "write `max-age={meant}`"),
-    OfAnswer("hsts/max-age-negative", HEADER, negative_age, IGNORED + "its max-age is negative", "write `max-age=0`, by which the host is forgotten"),
-    OfAnswer("hsts/semicolon-missing", HEADER, blank_between, IGNORED + "no semicolon stands before `{meant}`", "put one there"),
-    OfAnswer("hsts/max-age-no-number", HEADER, no_number, IGNORED + "`{meant}` is no number of seconds", "write digits alone, such as `31536000`"),
+    OfAnswer("hsts/max-age-quotes", HEADER, quoted_age, IGNORED + "the quotes of max-age are none that fit",
+             "write `max-age={meant}`"),
+    OfAnswer("hsts/max-age-negative", HEADER, negative_age, IGNORED + "its max-age is negative",
+             "write `max-age=0`, by which the host is forgotten"),
+    OfAnswer("hsts/semicolon-missing", HEADER, blank_between, IGNORED + "no semicolon stands before `{meant}`",
+             "put one there"),
+    OfAnswer("hsts/max-age-no-number", HEADER, no_number, IGNORED + "`{meant}` is no number of seconds",
+             "write digits alone, such as `31536000`"),
     OfAnswer("hsts/directive-twice", HEADER, twice, IGNORED + "`{meant}` stands twice in it", "write it once"),
-    OfAnswer("hsts/subdomains-value", HEADER, subdomains_value, IGNORED + "includeSubDomains has a value", "write `includeSubDomains` alone"),
-    OfAnswer("hsts/unknown-directive", HEADER, unknown_part, "a directive is skipped, which is nearly `{meant}`", "write `{meant}`"),
+    OfAnswer("hsts/subdomains-value", HEADER, subdomains_value, IGNORED + "includeSubDomains has a value",
+             "write `includeSubDomains` alone"),
+    OfAnswer("hsts/unknown-directive", HEADER, unknown_part, "a directive is skipped, which is nearly `{meant}`",
+             "write `{meant}`"),
     OfAnswer("hsts/no-field", HEADER, no_field, IGNORED + "`{it.value}` does not fit its grammar",
              "write `max-age=31536000; includeSubDomains`, or max-age alone", is_last=True),
-    OfAnswer("hsts/sent-twice", HEADER, sent_twice, "the header stands twice, and the first one alone counts", "send one"),
-    OfAnswer("hsts/over-http", HEADER, over_http, "the header is ignored over http", "send it with answers over https, where http redirects to"),
-    OfAnswer("hsts/on-an-address", HEADER, of_address, "the header is ignored of {meant}, which is no domain of the network",
-             "ask by a domain; or leave it out"),
-    OfAnswer("hsts/preload-without-subdomains", HEADER, preload_alone, "the list of preloaded hosts takes none without includeSubDomains",
+    OfAnswer("hsts/sent-twice", HEADER, sent_twice, "the header stands twice, and the first one alone counts",
+             "send one"),
+    OfAnswer("hsts/over-http", HEADER, over_http, "the header is ignored over http",
+             "send it with answers over https, where http redirects to"),
+    OfAnswer("hsts/on-an-address", HEADER, of_address,
+             "the header is ignored of {meant}, which is no domain of the network", "ask by a domain; or leave it out"),
+    OfAnswer("hsts/preload-without-subdomains", HEADER, preload_alone,
+             "the list of preloaded hosts takes none without includeSubDomains",
              "write `includeSubDomains` before `preload`; or take `preload` out"),
-    OfAnswer("hsts/preload-short", HEADER, preload_short, "the list of preloaded hosts takes none with a max-age under a year",
+    OfAnswer("hsts/preload-short", HEADER, preload_short,
+             "the list of preloaded hosts takes none with a max-age under a year",
              "write `max-age=31536000` or more; or take `preload` out"),
-    OfAnswer("hsts/zero-with-more", HEADER, zero_with_more, "with max-age=0 a browser forgets the host, and nothing else in the header counts",
+    OfAnswer("hsts/zero-with-more", HEADER, zero_with_more,
+             "with max-age=0 a browser forgets the host, and nothing else in the header counts",
              "write `max-age=0` alone; or a longer time"),
-    OfAnswer("hsts/header-misspelt", "a header's name", misspelt, "`{it.header}` is no header that a browser reads", "write `Strict-Transport-Security`"),
-    Lint("hsts/on-the-page", "a header's name", on_page, "a play does not read `{it.header}` of a page", "name its host in the scenario's `hsts`", (DOCUMENT,), is_note=True),
+    OfAnswer("hsts/header-misspelt", "a header's name", misspelt, "`{it.header}` is no header that a browser reads",
+             "write `Strict-Transport-Security`"),
+    Lint("hsts/on-the-page", "a header's name", on_page, "a play does not read `{it.header}` of a page",
+         "name its host in the scenario's `hsts`", (DOCUMENT,), is_note=True),
 ]

@@ -1,25 +1,21 @@
-"""What lints look at: headers with what is known beside them, the policies among them with their directives and words,
-and the options of a fetch or a load. Each has `at` and `header`, which say where it stands, and `kinds`, the words by
-which the table of lints asks for it."""
+"""What lints look at: headers with what is known beside them, and the options of a fetch or a load; policies.py has the
+policies among the headers. Each has `at` and `header`, which say where it stands, `kinds`, the words by which a table
+of lints asks for it, and `topics`, the names of the tables that may have some."""
 import functools
 import re
 from urllib.parse import urlsplit
 
-from commands import csp
-from commands.lints import grammar
-from commands.lints.entry import COMMAND, DOCUMENT
+from commands.lints.entry import COMMAND
 from commands.scenario import joined, origin_of
 
 POLICY = "content-security-policy"
 REPORT_ONLY = "content-security-policy-report-only"
-# What each kind of request is decided by.
-EFFECTIVE = {"fetch": "connect-src", "image": "img-src", "audio": "media-src", "video": "media-src", "font": "font-src",
-             "manifest": "manifest-src", "style": "style-src-elem", "script": "script-src-elem"}
 MOST_ASKS = 100
 MOST_TEXT = 1048576
-# A policy in quotes; and one that begins with the name of its header, or with HTML.
-QUOTED = re.compile("[\"'`\u201c\u2018]\\s*([A-Za-z-]+)")
-PASTED = re.compile(r"(?:x-)?content-security-policy(?:-report-only)?\s*:|<meta\b", re.I)
+# The tables of lints, and what the name of a header has in it that one of them may look at.
+TOPICS = {"csp": "^.?c(?!ross).*(?:sec|pol)|^x-(?:content-s|webkit)", "csp_words": None,
+          "cors": "access|allow|^cross-origin-r", "hsts": "^.?strict|^hsts$|transport-sec", "referrer": "^ref",
+          "integrity": None}
 
 
 class Ask:
@@ -66,8 +62,8 @@ class Budget:
 
 
 class Headers:
-    """The headers of a document, of an answer or of a fetch: `url` is that of the document, or what was asked for. `asks` are
-    the requests of the document, or those that get the answer; `preflights` are those whose preflights get it."""
+    """The headers of a document, of an answer or of a fetch: `url` is that of the document, or what was asked for.
+    `asks` are the requests of the document, or those that get the answer; `preflights` those whose preflights do."""
 
     def __init__(self, where, pairs, url, asks=(), preflights=(), is_real=False):
         self.where = where
@@ -119,11 +115,28 @@ class Headers:
                 yield from policy.things()
 
 
+@functools.lru_cache(1024)
+def topics_of(name):
+    """The tables that look at a header of this name."""
+    return tuple(topic for topic, form in TOPICS.items() if form and re.search(form, name))
+
+
 def hostname(url):
     try:
         return urlsplit(url).hostname or ""
     except ValueError:
         return ""
+
+
+def is_address(host):
+    """Whether a host is an IP address, as URLs have it."""
+    return re.fullmatch(r"\d+(?:\.\d+){3}", host) is not None or host.startswith("[")
+
+
+def is_loopback(host):
+    """Whether a host is this machine's own, which is trusted over http."""
+    is_local = host == "localhost" or host.endswith(".localhost")
+    return is_local or host == "[::1]" or re.fullmatch(r"127(?:\.\d+){3}", host) is not None
 
 
 class Field:
@@ -136,10 +149,9 @@ class Field:
         self.header = name
         self.name = name.lower()
         self.value = value.strip(" \t")
-        self.kinds = ["a header's name", self.name]
+        self.topics = topics_of(self.name)
         self.is_policy = self.name in (POLICY, REPORT_ONLY)
-        if self.is_policy:
-            self.kinds.append("a policy's header")
+        self.kinds = ("a header's name", self.name, "a policy's header")[:3 if self.is_policy else 2]
         self.policies = self.read_policies() if self.is_policy and headers.where != COMMAND else []
 
     @property
@@ -157,125 +169,15 @@ class Field:
 
     def read_policies(self):
         """Those that have a directive; the empty one where none has."""
+        from commands.lints.policies import Policy  # where there is one
         parts = [part for part in self.value.split(",") if part.strip(" \t;")] or [""]
         return [Policy(self, number, part) for number, part in enumerate(parts)]
-
-
-class Policy:
-    """One policy of a header. `effective` has the first directive of each name, as docs/rules/csp.md says."""
-
-    kinds = ["a policy"]
-
-    def __init__(self, field, number, text):
-        self.field = field
-        self.headers = field.headers
-        self.where, self.at, self.header = field.where, field.at, field.header
-        self.number = number
-        self.is_report_only = field.name == REPORT_ONLY
-        quoted = QUOTED.match(field.value)
-        self.is_quoted = quoted is not None and quoted.group(1).lower() in grammar.DIRECTIVES
-        # What no other lint than that of its header has a word for.
-        self.is_pasted = self.is_quoted or PASTED.match(field.value) is not None
-        self.directives = []
-        self.effective = {}
-        for part in filter(str.split, text.split(";")):
-            self.add(Directive(self, part, not self.directives))
-
-    def add(self, directive):
-        directive.is_again = directive.name in self.effective
-        self.directives.append(directive)
-        if directive.text.isascii() and not directive.is_again:
-            self.effective[directive.name] = directive
-
-    def things(self):
-        for directive in self.directives:
-            yield directive
-            if directive.is_known and directive.text.isascii() and not directive.is_again:
-                yield from directive.words
-
-    def decides(self, effective):
-        """The name of the directive that decides for an effective one."""
-        return csp.deciding(self.effective, effective)[0]
-
-
-class Directive:
-    kinds = ["a directive"]
-
-    def __init__(self, policy, text, is_first):
-        self.policy = policy
-        self.where, self.at, self.header = policy.where, policy.at, policy.header
-        self.text = text.strip()
-        self.written, *self.rest = text.split()
-        self.name = self.written.lower()
-        self.is_known = self.name in grammar.DIRECTIVES
-        self.has_sources = self.name in grammar.SOURCES
-        # The first one behind a comma, where that begins another policy.
-        self.follows_comma = is_first and policy.number > 0
-        self.is_again = False
-
-
-    @functools.cached_property
-    def words(self):
-        """Up to one that is the name of another directive, behind a semicolon that is missing."""
-        words, seen = [], set()
-        for text in self.rest:
-            words.append(Word(self, text, text in seen))
-            seen.add(text)
-            if words[-1].is_directive:
-                break
-        return words
-
-    @functools.cached_property
-    def texts(self):
-        return [word.lower for word in self.words]
-
-    @functools.cached_property
-    def inner(self):
-        """The keywords without their quotes."""
-        return [word.inner.lower() for word in self.words if word.inner is not None]
-
-    @functools.cached_property
-    def has_proof(self):
-        """Whether there is a nonce or a hash."""
-        return any(word.is_proof for word in self.words)
-
-
-class Word:
-    """A word of a directive; `inner` is what its quotes hold, or None."""
-
-    def __init__(self, directive, text, is_again):
-        self.directive = directive
-        self.policy = directive.policy
-        self.where, self.at, self.header = directive.where, directive.at, directive.header
-        self.text = text
-        self.lower = text.lower()
-        self.is_again = is_again
-        self.inner = text[1:-1] if re.fullmatch("'[^']*'", text) else None
-        self.kinds = ["a word", "a source"] if directive.has_sources else ["a word"]
-        self.host = grammar.HOST.fullmatch(text)
-        self.is_directive = ("-" in text and self.lower in grammar.DIRECTIVES
-                             and directive.name not in ("report-to", "trusted-types"))
-
-    @property
-    def is_proof(self):
-        found = grammar.NONCE.fullmatch(self.inner or "") or grammar.HASH.fullmatch(self.inner or "")
-        return found is not None
-
-    @property
-    def place(self):
-        """The host of a word that may be a URL, in lower case."""
-        return re.match(r"(?:(?:[^/:]*:)?//)?(\[[^\]]*\]|[^/:?#]*)", self.lower).group(1)
-
-    def asks(self):
-        """The requests of the page that this directive decides."""
-        asks = self.policy.headers.asks if self.where == DOCUMENT else []
-        return [ask for ask in asks if self.policy.decides(EFFECTIVE[ask.kind]) == self.directive.name]
 
 
 class Options:
     """The options of a fetch or a load."""
 
-    kinds = ["an integrity text"]
+    kinds, topics = ("an integrity text",), ("integrity",)
     where = COMMAND
     at = header = "integrity"
 

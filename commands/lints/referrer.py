@@ -38,7 +38,7 @@ def other_sign(field):
 
 
 def unknown_word(field):
-    """A word that is none: the nearest, and of a list in which others are known one that is surely meant for another."""
+    """A word that is none; of a list in which others are known one that is surely meant for another."""
     for word in words(field):
         if word not in KNOWN and word not in OLD and re.fullmatch("[a-z_-]+", word):
             meant = nearest(word, KNOWN)
@@ -60,19 +60,23 @@ def last_decides(field):
 
 def misspelt(field):
     """`Referer-Policy` above all: the header of requests is spelt so."""
-    is_other = field.name != HEADER.lower() and re.search("^ref.*pol", field.name) is not None
-    return is_other and nearest(field.name, [HEADER]) is not None
+    return field.name != HEADER.lower() and nearest(field.name, (HEADER,)) is not None
 
 
 TABLE = [
-    Lint("referrer/quotes", HEADER, in_quotes, "the policy is in quotes, and no browser knows it so", "write `{meant}`"),
-    Lint("referrer/without-commas", HEADER, other_sign, "`{it.value}` is no policy: commas stand between the words of a list",
-         "write `{meant}`, or one of them"),
-    Lint("referrer/old-word", HEADER, old_word, "`{it.value}` has a word of a draft, which browsers do not know here", "write `{meant}`"),
-    Lint("referrer/unknown-word", HEADER, unknown_word, "`{it.value}` has a word that is no policy, and is skipped", "{meant}"),
+    Lint("referrer/quotes", HEADER, in_quotes, "the policy is in quotes, and no browser knows it so",
+         "write `{meant}`"),
+    Lint("referrer/without-commas", HEADER, other_sign,
+         "`{it.value}` is no policy: commas stand between the words of a list", "write `{meant}`, or one of them"),
+    Lint("referrer/old-word", HEADER, old_word, "`{it.value}` has a word of a draft, which browsers do not know here",
+         "write `{meant}`"),
+    Lint("referrer/unknown-word", HEADER, unknown_word, "`{it.value}` has a word that is no policy, and is skipped",
+         "{meant}"),
     Lint("referrer/nothing-known", HEADER, nothing_known, "`{it.value}` has no policy in it, so the default counts",
          "write one, such as `strict-origin-when-cross-origin`", is_last=True),
-    Lint("referrer/last-decides", HEADER, last_decides, "of `{it.value}` the last known word counts, which is `{meant}`",
+    Lint("referrer/last-decides", HEADER, last_decides,
+         "of `{it.value}` the last known word counts, which is `{meant}`",
          "write that alone; or the one that is meant last"),
-    Lint("referrer/header-misspelt", "a header's name", misspelt, "`{it.header}` is no header that a browser reads", "write `Referrer-Policy`"),
+    Lint("referrer/header-misspelt", "a header's name", misspelt, "`{it.header}` is no header that a browser reads",
+         "write `Referrer-Policy`"),
 ]
