@@ -230,7 +230,7 @@ def insecure_source(word):
         return None
     if "strict-dynamic" in word.directive.inner or is_loopback(word.place):
         return None
-    return found.group(1) + "s" + word.text[len(found.group(1)):]
+    return re.sub(r":80(?=/|$)", "", found.group(1) + "s" + word.text[len(found.group(1)):])
 
 
 def with_query(word):
@@ -339,7 +339,7 @@ URLS = [
     Lint("csp/one-slash", "a source", one_slash, "`{it.text}` is no word: two slashes stand behind the scheme",
          "write `{meant}`"),
     Lint("csp/address", "a source", other_address,
-         "by CSP 3 an IP address matches nothing but `127.0.0.1`; browsers differ, and this engine matches none",
+         "by CSP 3 no IP address matches but `127.0.0.1`, and this engine matches none",
          "write a domain for {it.place}"),
     Lint("csp/loopback-address", "a source", loopback_address,
          "browsers match `127.0.0.1`, as CSP 3 has it, and this engine matches no IP address",
@@ -352,7 +352,7 @@ URLS = [
     Lint("csp/ancestor-path", "a source", ancestor_path,
          "of an ancestor the origin alone is looked at, so `{it.text}` with its path matches none", "write `{meant}`"),
     Lint("csp/source-twice", "a source", is_again, "`{it.text}` stands twice in `{it.directive.name}`", "take one out"),
-    Lint("csp/no-word", "a source", no_word, "`{it.text}` is no word of the grammar, and matches nothing",
+    Lint("csp/no-word", "a source", no_word, "by the grammar of CSP 3 `{it.text}` is no word, and matches nothing",
          "write a host, such as `https://cdn.example`, a scheme or a keyword", is_last=True),
 ]
 

@@ -71,13 +71,6 @@ def wrong_length(options):
     return None
 
 
-def other_letters(options):
-    """Of base64 for URLs."""
-    whole = (value for name, value in known(options) if grammar.is_digest(name, value))
-    found = next((value for value in whole if re.search("[-_]", value)), None)
-    return found and found.replace("-", "+").replace("_", "/")
-
-
 def no_base64(options):
     other = (name for name, value in known(options) if "," not in value and not grammar.BASE64.fullmatch(value))
     return next(other, None)
@@ -115,9 +108,6 @@ TABLE = [
     OfCommand("integrity/length", TEXT, wrong_length,
               "the digest by {meant} is too short or too long, and matches no body",
               "make it anew, and write all of it"),
-    OfCommand("integrity/letters", TEXT, other_letters,
-              "the digest is in base64 for URLs, which browsers compare letter by letter",
-              "write `+` for `-` and `/` for `_`: `{meant}`"),
     OfCommand("integrity/no-base64", TEXT, no_base64,
               "the digest by {meant} has other signs than base64, and is skipped", "make it anew, in base64"),
     OfCommand("integrity/nothing-fits", TEXT, nothing_fits,
