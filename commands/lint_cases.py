@@ -105,7 +105,6 @@ CSP_DIRECTIVES = {
     "csp/url-in-report-to": (csp_of("img-src 'self'; report-to https://shop.test/csp"),
                              csp_of("img-src 'self'; report-uri https://shop.test/csp")),
     "csp/name-in-report-uri": (page([POLICY, "img-src 'self'; report-uri csp"], ENDPOINTS),
-                               
                                csp_of("img-src 'self'; report-uri csp")),
     "csp/report-to-unknown": (page([POLICY, "img-src 'self'; report-to cps"], ENDPOINTS),
                               page([POLICY, "img-src 'self'; report-to csp"], ENDPOINTS)),
@@ -276,9 +275,9 @@ RIGHT = [
     "default-src 'none'; script-src 'self' 'nonce-n1' 'report-sample'; style-src 'self' 'unsafe-inline'; "
     "img-src 'self' data: blob: https://*.img.test; font-src https://font.test/a/; "
     "connect-src 'self' https://api.test:8443 wss://live.test; media-src https:; manifest-src 'self'; "
-    "object-src 'none'; frame-src https://frame.test; child-src 'self'; worker-src 'self' blob:; base-uri 'none'; form-action 'self'; "
-    "frame-ancestors 'self' https://top.test; upgrade-insecure-requests; report-uri /csp https://log.test/csp?a=1; "
-    "report-to csp",
+    "object-src 'none'; frame-src https://frame.test; child-src 'self'; worker-src 'self' blob:; base-uri 'none'; "
+    "form-action 'self'; frame-ancestors 'self' https://top.test; upgrade-insecure-requests; "
+    "report-uri /csp https://log.test/csp?a=1; report-to csp",
     "script-src-elem 'strict-dynamic' 'sha256-%s' 'unsafe-eval' 'wasm-unsafe-eval' 'trusted-types-eval' "
     "'inline-speculation-rules'; script-src-attr 'unsafe-hashes' 'sha384-%s'; style-src-elem 'nonce-n1'; "
     "style-src-attr 'unsafe-inline'; fenced-frame-src https:" % (SHA256, SHA384),

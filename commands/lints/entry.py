@@ -1,5 +1,4 @@
 """An entry of the table of lints."""
-import difflib
 import functools
 import re
 
@@ -63,6 +62,8 @@ class Finding:
 @functools.lru_cache(4096)
 def nearest(word, known):
     """The one of known words that is meant, or None."""
+    import difflib  # it is read where a word is unknown
+
     def plain(text):
         return re.sub(r"[-_ ]", "", text).lower()
     names = {plain(one): one for one in known}
