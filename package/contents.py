@@ -24,11 +24,11 @@ PROGRAMS = [
 
 SCRIPTS = [
     Script("why", "plays a scenario, and says why each fetch came to what it came",
-           ["fiorrudda-why [--net] [--json] [--timeout S] [SCENARIO]", "fiorrudda-why --ways"], ["docs/why.md"],
-           ["--net", "--json", "--timeout", "--ways", "--help"]),
+           ["fiorrudda-why [--net] [--json] [--timeout S] [SCENARIO]", "fiorrudda-why --ways", "fiorrudda-why --lints"],
+           ["docs/why.md"], ["--net", "--json", "--timeout", "--ways", "--lints", "--help"]),
     Script("expect", "plays tests: scenarios, each beside what it should come to",
-           ["fiorrudda-expect [--net] [--json] [--jobs N] [--timeout S] TEST.."], ["docs/why.md"],
-           ["--net", "--json", "--jobs", "--timeout", "--help"]),
+           ["fiorrudda-expect [--net] [--strict] [--json] [--jobs N] [--timeout S] TEST.."], ["docs/why.md"],
+           ["--net", "--strict", "--json", "--jobs", "--timeout", "--help"]),
     Script("view", "draws a play as a sequence diagram",
            ["fiorrudda-view [SCENARIO] [-o FILE] [--open]", "fiorrudda-view --text PLAY [-o FILE] [--open]"],
            ["docs/view.md"], ["--text", "-o", "--open", "--help"]),
