@@ -3,7 +3,7 @@ import functools
 import re
 
 from commands.lints.entry import ANSWER, DOCUMENT, Lint, nearest
-from commands.lints.reading import is_address, is_loopback
+from commands.lints.reading import is_address
 
 HEADER = "Strict-Transport-Security"
 KNOWN = ("max-age", "includesubdomains", "preload")
@@ -12,11 +12,12 @@ YEAR = 31536000
 TOKEN = r"[!#$%&'*+\-.^_`|~0-9A-Za-z]+"
 PART = r"[ \t]*(?:%s[ \t]*(?:=[ \t]*(?:%s|\"(?:[^\"\\]|\\.)*\")[ \t]*)?)?" % (TOKEN, TOKEN)
 FIELD = re.compile(PART + "(?:;" + PART + ")*")
+PIECE = re.compile(r'(?:[^;"]|"(?:[^"\\]|\\.)*"|")+')  # one directive; a quote that does not close is a sign
 
 
 def parts(field):
     """The directives as pairs of a name in lower case and a value, or None where there is no equals sign."""
-    for text in field.value.split(";"):
+    for text in PIECE.findall(field.value):
         name, sign, value = text.partition("=")
         if text.strip():
             yield name.strip().lower(), value.strip() if sign else None
@@ -30,7 +31,7 @@ def age_of(field):
     """The text of max-age, without quotes that fit; None where there is none."""
     value = next((value for name, value in parts(field) if name == "max-age"), None)
     found = re.fullmatch(r'"(.*)"', value or "")
-    return found.group(1) if found else value
+    return re.sub(r"\\(.)", r"\1", found.group(1)) if found else value
 
 
 def seconds(field):
@@ -40,6 +41,10 @@ def seconds(field):
 
 def has(field, name):
     return name in names(field)
+
+
+def fits(field):
+    return FIELD.fullmatch(field.value) is not None
 
 
 # ---- what is found
@@ -58,7 +63,7 @@ def with_colon(field):
 
 
 def no_age(field):
-    return not re.search("max[-_]?age", field.value, re.I)
+    return fits(field) and not has(field, "max-age")
 
 
 def quoted_age(field):
@@ -68,7 +73,7 @@ def quoted_age(field):
 
 
 def negative_age(field):
-    return re.fullmatch(r"-\d+", age_of(field) or "") is not None
+    return fits(field) and re.fullmatch(r"-\d+", age_of(field) or "") is not None
 
 
 def blank_between(field):
@@ -78,14 +83,13 @@ def blank_between(field):
 
 def no_number(field):
     text = age_of(field)
-    others = (with_comma, quoted_age, negative_age, blank_between)
-    if not has(field, "max-age") or any(other(field) for other in others):
+    if not fits(field) or not has(field, "max-age") or quoted_age(field) or negative_age(field):
         return None
     return not re.fullmatch("[0-9]+", text or "") and (text or "nothing")
 
 
 def twice(field):
-    own = names(field)
+    own = names(field) if fits(field) else []
     return next((SPELT.get(name, name) for index, name in enumerate(own[:64]) if name in own[:index]), None)
 
 
@@ -99,16 +103,16 @@ def over_http(field):
 
 def of_address(field):
     host = field.headers.host
-    return field.headers.scheme == "https" and (is_address(host) or is_loopback(host)) and host
+    return field.headers.scheme == "https" and is_address(host) and host
 
 
 def subdomains_value(field):
-    return any(name == "includesubdomains" and value is not None for name, value in parts(field))
+    return fits(field) and any(name == "includesubdomains" and value is not None for name, value in parts(field))
 
 
 def unknown_part(field):
     """A directive that is nearly a known one."""
-    for name in names(field)[:64]:
+    for name in names(field)[:64] if fits(field) else []:
         meant = nearest(name, KNOWN) if name not in KNOWN and re.fullmatch("[a-z_-]+", name) else None
         if meant:
             return SPELT[meant]
@@ -116,7 +120,7 @@ def unknown_part(field):
 
 
 def preload_alone(field):
-    return has(field, "preload") and not has(field, "includesubdomains")
+    return fits(field) and has(field, "preload") and not has(field, "includesubdomains")
 
 
 def preload_short(field):
@@ -129,7 +133,8 @@ def zero_with_more(field):
 
 
 def no_field(field):
-    return FIELD.fullmatch(field.value) is None
+    others = (in_quotes, with_comma, with_colon, quoted_age, blank_between)
+    return not fits(field) and not any(other(field) for other in others)
 
 
 def misspelt(field):
@@ -163,13 +168,13 @@ TABLE = [
     OfAnswer("hsts/unknown-directive", HEADER, unknown_part, "a directive is skipped, which is nearly `{meant}`",
              "write `{meant}`"),
     OfAnswer("hsts/no-field", HEADER, no_field, IGNORED + "`{it.value}` does not fit its grammar",
-             "write `max-age=31536000; includeSubDomains`, or max-age alone", is_last=True),
+             "write `max-age=31536000; includeSubDomains`, or max-age alone"),
     OfAnswer("hsts/sent-twice", HEADER, sent_twice, "the header stands twice, and the first one alone counts",
              "send one"),
     OfAnswer("hsts/over-http", HEADER, over_http, "the header is ignored over http",
              "send it with answers over https, where http redirects to"),
     OfAnswer("hsts/on-an-address", HEADER, of_address,
-             "the header is ignored of {meant}, which is no domain of the network", "ask by a domain; or leave it out"),
+             "the header is ignored of {meant}, which is an IP address", "ask by a domain; or leave it out"),
     OfAnswer("hsts/preload-without-subdomains", HEADER, preload_alone,
              "the list of preloaded hosts takes none without includeSubDomains",
              "write `includeSubDomains` before `preload`; or take `preload` out"),
