@@ -2,6 +2,7 @@
 Each is an entry of a table; docs/rules/lints.md lists them, as `bin/why --lints` does."""
 import functools
 import importlib
+import re
 from itertools import islice
 
 from commands import answers
@@ -64,9 +65,11 @@ class Place:
         """The place of the text."""
         if self.node.kind == "string":
             return self.node.start
-        if self.node.kind == "list":
-            return self.node.items[finding.at].items[0 if finding.is_name else 1].start
-        return (self.node.member("integrity") or self.node).start
+        if self.node.kind == "object":
+            return (self.node.member("integrity") or self.node).start
+        value = self.node.items[finding.at].items[0 if finding.is_name else 1]
+        part = finding.text and re.search(r'(?<![^\s;,"])%s(?![^\s;,"])' % re.escape(finding.text), value.text)
+        return value.start + (part.start() if part else 0)
 
 
 def in_scenario(scenario):

@@ -49,13 +49,14 @@ class Lint:
 
 class Finding:
     """What a lint says of a thing, and where that stands: the number of a header or the key of an option, and in
-    `header` the header's name or that key."""
+    `header` the header's name or that key; `text` is the part of the value that it is said of, or None."""
 
     def __init__(self, lint, it, sentence):
         self.lint = lint
         self.at = it.at
         self.header = it.header
         self.is_name = lint.looks_at == "a header's name"
+        self.text = getattr(it, "text", None)
         self.sentence = sentence
 
 
