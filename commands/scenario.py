@@ -126,6 +126,7 @@ class Scenario:
         self.root = root
         self.data = root.plain()
         self.rules_by = {}
+        self.told_by = {}
 
     def servers(self):
         return self.data.get("servers", [])
@@ -136,7 +137,10 @@ class Scenario:
 
     @functools.cached_property
     def first_servers(self):
-        return {one["origin"]: index for index, one in reversed(list(enumerate(self.servers())))}
+        found = {}
+        for index, one in enumerate(self.servers()):
+            found.setdefault(one["origin"], index)
+        return found
 
     def rule_of(self, server, request):
         """The number of the first rule of a server that takes a request, or None."""
@@ -151,6 +155,25 @@ class Scenario:
             backwards = reversed(list(enumerate(self.servers()[server]["rules"])))
             self.rules_by[server] = {(rule.get("method"), target_of(rule)): index for index, rule in backwards}
         return self.rules_by[server]
+
+    def told_rules(self, server):
+        """Some of the requests that a server has rules for, in words."""
+        if server not in self.told_by:
+            rules = self.servers()[server]["rules"]
+            told = {" ".join(filter(None, [rule.get("method", ""), rule.get("path", "any path")])) for rule in rules}
+            self.told_by[server] = sorted(told)[:8]
+        return self.told_by[server]
+
+    def near_origins(self, host):
+        """Some of the servers' origins: those of a host, or any where it has none."""
+        return list(self.origins_by_host.get(host) or self.first_servers)[:8]
+
+    @functools.cached_property
+    def origins_by_host(self):
+        found = {}
+        for origin in self.first_servers:
+            found.setdefault(urlsplit(origin).hostname, []).append(origin)
+        return found
 
     def route_of(self, origin):
         return self.routes.get(origin)
