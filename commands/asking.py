@@ -87,9 +87,9 @@ class Said:
     """What is said of a scenario that was played."""
 
     def __init__(self, data, is_net, patience):
-        text, scenario, self.told = played(data, is_net, patience)
-        places = json_text.Places(text)
-        self.warnings = [(*places.of(at), sentence) for at, sentence in doubts.doubts(scenario, self.told.play, is_net)]
+        text, self.scenario, self.told = played(data, is_net, patience)
+        places, found = json_text.Places(text), doubts.doubts(self.scenario, self.told.play, is_net)
+        self.warnings = [(*places.of(at), sentence) for at, sentence in found]
 
     def data(self):
         """As JSON has it; schema/why.schema.json says how."""
