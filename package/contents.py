@@ -24,8 +24,9 @@ PROGRAMS = [
 
 SCRIPTS = [
     Script("why", "plays a scenario, and says why each fetch came to what it came",
-           ["fiorrudda-why [--net] [--json] [--timeout S] [SCENARIO]", "fiorrudda-why --ways", "fiorrudda-why --lints"],
-           ["docs/why.md"], ["--net", "--json", "--timeout", "--ways", "--lints", "--help"]),
+           ["fiorrudda-why [--net] [--brief|--json] [--timeout S] [SCENARIO]",
+            "fiorrudda-why [--net] [--timeout S] --serve", "fiorrudda-why --ways", "fiorrudda-why --lints"], ["docs/why.md"],
+           ["--net", "--brief", "--json", "--serve", "--timeout", "--ways", "--lints", "--help"]),
     Script("expect", "plays tests: scenarios, each beside what it should come to",
            ["fiorrudda-expect [--net] [--strict] [--json] [--jobs N] [--timeout S] TEST.."], ["docs/why.md"],
            ["--net", "--strict", "--json", "--jobs", "--timeout", "--help"]),
@@ -52,8 +53,8 @@ FOLDERS = {
 
 # What scripts need of the folders that have checks beside it.
 VIEW = ["page.html", "page.py", "view.css"]
-COMMANDS = ["answers.py", "asking.py", "auditing.py", "case.py", "csp.py", "doubts.py", "expectations.py", "explanations.py", "json_text.py",
-            "play_text.py", "refusals.py", "relay.py", "results.py", "running.py", "scenario.py", "schema.py", "streams.py",
-            "told.py"]
+COMMANDS = ["answers.py", "asking.py", "auditing.py", "case.py", "csp.py", "doubts.py", "expectations.py", "explanations.py",
+            "findings.py", "json_text.py", "play_text.py", "policy_questions.py", "refusals.py", "relay.py", "results.py",
+            "running.py", "scenario.py", "schema.py", "streams.py", "summaries.py", "told.py"]
 PLAYGROUND = ["page.html", "playground.css", "documents.py", "gate.py", "markdown.py", "page.py", "player.py",
               "questions.py", "serve.py"]
