@@ -188,7 +188,8 @@ def lists(name):
     return [
         OfAnswer("cors/%s-quotes" % short, name, quoted_item, "`{meant}` has quotes or brackets, and is no token",
                  "write the names alone"),
-        OfAnswer("cors/%s-without-commas" % short, name, joined_items, "`{meant}` is one item, since no comma stands in it",
+        OfAnswer("cors/%s-without-commas" % short, name, joined_items,
+                 "`{meant}` is one item, since no comma stands in it",
                  "put commas between names, and no blank into one"),
         OfAnswer("cors/%s-no-token" % short, name, bad_item, "`{meant}` is no token", "write a name's letters alone",
                  is_last=True),
