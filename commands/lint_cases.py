@@ -287,7 +287,8 @@ RIGHT = [
     "script-src 'strict-dynamic' 'nonce-n1' 'unsafe-inline' https: http:",
     "img-src *", "img-src https://* http://localhost:* *.a.test:443 A.test. a.test/%41/b;", "IMG-SRC 'SELF'",
     "script-src 'sha512-%s=='" % ("A" * 86), "frame-ancestors 'none'", "trusted-types *", "trusted-types",
-    "default-src 'self';;", "img-src 'self' a.test a.test/b/ wss://a.test:* mediastream:",
+    "default-src 'self';;", "default-src https: data: 'unsafe-inline' 'unsafe-eval'",
+    "img-src 'self' a.test a.test/b/ wss://a.test:* mediastream:",
 ]
 
 # Headers as servers send them, all right, of an answer and of a document.

@@ -195,6 +195,6 @@ def headers_of(case, request, head):
 
 def notes(told_play):
     """What bin/ask says, of its words and of what was answered."""
-    sentences = [sentence for _, sentence in of_scenario(told_play.cases[0].scenario)]
+    sentences = [sentence for case in told_play.cases[:1] for _, sentence in of_scenario(case.scenario)]
     sentences += ["%s: %s: %s" % one for one in of_answers(told_play)]
     return list(dict.fromkeys(sentences))

@@ -186,9 +186,10 @@ def lists(name):
     """What three headers have in common."""
     short = name.replace("Access-Control-", "").lower()
     return [
-        OfAnswer("cors/%s-quotes" % short, name, quoted_item, "`{meant}` has quotes or brackets, and is no token",
+        OfAnswer("cors/%s-quotes" % short, name, quoted_item, "`{meant}` has quotes or brackets, which no name has",
                  "write the names alone"),
-        OfAnswer("cors/%s-without-commas" % short, name, joined_items, "`{meant}` is one item, since no comma stands in it",
+        OfAnswer("cors/%s-without-commas" % short, name, joined_items,
+                 "`{meant}` is one item, since no comma stands in it",
                  "put commas between names, and no blank into one"),
         OfAnswer("cors/%s-no-token" % short, name, bad_item, "`{meant}` is no token", "write a name's letters alone",
                  is_last=True),

@@ -295,9 +295,12 @@ def local_without_scheme(word):
 
 
 def data_scripts(word):
-    if word.lower != "data:" or "strict-dynamic" in word.directive.inner:
+    """Where scripts that stand in the page are not let through anyhow."""
+    directive = word.directive
+    is_open = "unsafe-inline" in directive.inner and not directive.has_proof
+    if word.lower != "data:" or "strict-dynamic" in directive.inner or is_open:
         return None
-    return word.directive.name in grammar.SCRIPTS and word.policy.decides("script-src-elem") == word.directive.name
+    return directive.name in grammar.SCRIPTS and word.policy.decides("script-src-elem") == directive.name
 
 
 def ancestor_path(word):

@@ -22,10 +22,6 @@ def known(options):
     return [one.groups() for one in found if one]
 
 
-def is_token(options, text):
-    return any(text == "%s-%s" % pair for pair in known(options))
-
-
 # ---- what is found
 
 def in_quotes(options):

@@ -21,7 +21,6 @@ class Policy:
     kinds, topics = ("a policy",), ("csp",)
 
     def __init__(self, field, number, text):
-        self.field = field
         self.headers = field.headers
         self.where, self.at, self.header = field.where, field.at, field.header
         self.number = number
