@@ -12,7 +12,7 @@ KINDS = ("fetch", "image", "audio", "video", "style", "script", "font", "manifes
 ITEM = re.compile(r"(?:document ([0-9]{1,3}) )?(\S+) (\S.*)", re.S)
 EXAMPLE = '"script https://cdn.example/app.js"'
 # An origin whose server a scenario takes as it is written here: of a host that is no address and needs no coding.
-PLAIN = re.compile(r"https?://(?:[a-z0-9_][a-z0-9_-]*\.)*(?!xn--)[a-z][a-z0-9-]*(?::[1-9][0-9]{0,4})?")
+PLAIN = re.compile(r"https?://(?:(?!xn--)[a-z0-9_][a-z0-9_-]*\.)*(?!xn--)[a-z][a-z0-9-]*(?::[1-9][0-9]{0,4})?")
 ANSWER = {"status": 200, "headers": [["Access-Control-Allow-Origin", "*"]]}
 POLICY_ERRORS = (4, 19)
 MOST_LOADS = 100  # of a document
