@@ -118,6 +118,10 @@ async function compare(given) {
 }
 
 async function main(words) {
+  if (words[0] === "--help") {
+    process.stdout.write(USAGE);
+    return 0;
+  }
   try {
     return await compare(readWords(words));
   } catch (error) {

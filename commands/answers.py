@@ -66,14 +66,10 @@ def scripted(scenario, request):
     server = scenario.server_of(request.origin)
     if server is None:
         return Answer(b"")
-    for index, rule in enumerate(scenario.servers()[server]["rules"]):
-        if rule.get("method", request.method) == request.method and fits(rule, request):
-            return Answer(data_of(rule), server, index)
-    return Answer(NO_RULE, server)
-
-
-def fits(rule, request):
-    return "path" not in rule or rule["path"].encode("utf-8", "surrogatepass") == request.target.encode("latin-1")
+    index = scenario.rule_of(server, request)
+    if index is None:
+        return Answer(NO_RULE, server)
+    return Answer(data_of(scenario.servers()[server]["rules"][index]), server, index)
 
 
 def data_of(rule):

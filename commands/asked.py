@@ -7,7 +7,7 @@ from urllib.parse import urlsplit
 
 import fiorrudda
 
-from commands import answers, json_text, live, play_text, results, streams, told
+from commands import answers, json_text, lints, live, play_text, results, streams, told
 from commands.scenario import Scenario, joined, origin_of
 
 LIMIT = 1048576
@@ -166,6 +166,7 @@ class Answered:
         found += [self.of_cookies()] if given.cookie else []
         found += ["%s: %s" % (one.origin, one.note) for one in self.wire.exchanges if one.note]
         found += [self.unkept] if self.unkept else []
+        found += lints.notes(self.told)
         return list(filter(None, found))
 
     def of_cookies(self):

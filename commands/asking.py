@@ -1,10 +1,12 @@
-"""What bin/why does: plays a scenario, tells why, or what is wrong in the scenario."""
-import json
-import os
+"""What bin/why does: plays a scenario, tells why, or what is wrong in the scenario.
 
-from commands import doubts, json_text, play_text, refusals, relay, running, streams, told
+What a refusal and real servers take is imported where it is used: most calls need neither, and it costs as much as a
+play."""
+import os
+import sys
+
+from commands import doubts, findings, json_text, lints, play_text, running, streams, summaries, told
 from commands.scenario import Scenario
-from commands.schema import Schema
 
 SCHEMA = os.path.join(running.ROOT, "schema", "scenario.schema.json")
 
@@ -24,6 +26,7 @@ def read(data, what="a scenario"):
         text = json_text.decoded(data)
         return text, json_text.read(text, what)
     except json_text.Fault as fault:
+        from commands import refusals
         raise Wrong(refusals.of_fault(text, fault)) from fault
 
 
@@ -31,21 +34,32 @@ def played(data, is_net=False, patience=20):
     """A scenario's bytes, played: its text, the scenario, and what is told of the play."""
     text, root = read(data)
     try:
-        if not is_net:
-            play = play_text.read(running.played(data))
-            return text, Scenario(root), told.scripted(Scenario(root), play)
-        return (text, Scenario(root), played_over_net(data, text, root, patience))
+        if is_net:
+            return (text, *played_over_net(data, text, root, patience))
+        play = play_text.read(running.played(data))
+        scenario = Scenario(root)
+        return text, scenario, told.scripted(scenario, play)
     except running.Refused as refused:
-        raise Wrong(refusals.of_place(text, root, refused.place, Schema(SCHEMA))) from refused
+        raise Wrong(refused_at(text, root, refused.place)) from refused
+
+
+def refused_at(text, root, place):
+    """Why the program refuses a scenario at a place."""
+    from commands import refusals
+    from commands.schema import Schema
+    if root.kind == "object" and root.member("scenario") and root.member("expect"):
+        return refusals.Refusal(text, root.start, place, "this is a test, and no scenario: bin/expect plays it")
+    return refusals.of_place(text, root, place, Schema(SCHEMA))
 
 
 def played_over_net(data, text, root, patience):
     """The play is led through a relay, which keeps the answers. What is refused is refused without it."""
+    from commands import relay
     scenario = Scenario(root) if root.kind == "object" else None
     addresses = addresses_of(scenario)
     with relay.Relay(addresses, patience) as passing:
         text = running.played(redirected(data, text, root, passing), "net")
-    return told.recorded(scenario, play_text.read(text), passing)
+    return scenario, told.recorded(scenario, play_text.read(text), passing)
 
 
 def addresses_of(scenario):
@@ -60,32 +74,57 @@ def redirected(data, text, root, passing):
     node = root.member("routes") if root.kind == "object" else None
     if node is None or node.kind != "list":
         return data
-    for pair in reversed(node.items):
+    pieces, end = [], 0
+    for pair in node.items:
         address = pair.items[1] if len(pair.items) == 2 else None
         if address is not None and address.kind == "string" and address.value in passing.own:
-            text = text[:address.start] + json.dumps(passing.own[address.value]) + text[address.end:]
-    return text.encode("utf-8")
+            pieces += [text[end:address.start], '"%s"' % passing.own[address.value]]
+            end = address.end
+    return "".join([*pieces, text[end:]]).encode("utf-8")
+
+
+class Said:
+    """What is said of a scenario that was played."""
+
+    def __init__(self, data, is_net, patience):
+        text, self.scenario, self.told = played(data, is_net, patience)
+        places, found = json_text.Places(text), doubts.doubts(self.scenario, self.told.play, is_net)
+        self.warnings = [(*places.of(at), sentence) for at, sentence in found]
+        self.answer_warnings = lints.of_answers(self.told) if is_net else []
+
+    def data(self):
+        """As JSON has it; schema/why.schema.json says how."""
+        lines = summaries.brief(self.told)
+        return {
+            "warnings": [dict(zip(("line", "column", "sentence"), warning)) for warning in self.warnings]
+            + [dict(zip(("url", "header", "sentence"), warning)) for warning in self.answer_warnings],
+            "fetches": [{**one, **findings.of(case), "summary": line}
+                        for one, case, line in zip(self.told.data(), self.told.cases, lines)]}
+
+    def write(self, name):
+        """The verdicts, the warnings, and the play with what is said between its lines."""
+        streams.write_lines("# " + line for line in summaries.heading(self.told))
+        streams.write_lines("# warning: %s:%d:%d: %s" % (name, *warning) for warning in self.warnings)
+        streams.write_lines("# warning: %s: %s: %s" % warning for warning in self.answer_warnings)
+        for line, own in self.told.pieces():
+            streams.write_play(line)
+            streams.write_lines(own)
 
 
 def why(self, name, data, given):
     """Prints all of it, and gives the status."""
     try:
-        text, scenario, all_told = played(data, given.net, given.timeout)
+        found = Said(data, given.net, given.timeout)
     except Wrong as wrong:
         return refused(name, wrong.refusal, given.json)
     except (running.Failed, play_text.NoPlay) as failure:
         return streams.complain(3, "%s: %s" % (self, failure))
-    warnings = [(json_text.place_of(text, place), sentence)
-                for place, sentence in doubts.doubts(scenario, all_told.play, given.net)]
     if given.json:
-        streams.write_json({
-            "warnings": [{"line": line, "column": column, "sentence": sentence} for (line, column), sentence in warnings],
-            "fetches": all_told.data()})
-        return 0
-    streams.write_lines("# warning: %s:%d:%d: %s" % (name, line, column, sentence) for (line, column), sentence in warnings)
-    for line, own in all_told.pieces():
-        streams.write_play(line)
-        streams.write_lines(own)
+        streams.write_json(found.data())
+    elif given.brief:
+        streams.write_lines(summaries.brief(found.told))
+    else:
+        found.write(name)
     return 0
 
 
@@ -94,3 +133,24 @@ def refused(name, refusal, as_json):
         streams.write_json({"refused": refusal.data()})
         return 1
     return streams.complain(1, "\n".join(refusal.told(name)))
+
+
+# ---- many scenarios
+
+def serve(given):
+    """Answers each line of standard input, a scenario, by a line of JSON, until they end."""
+    for line in sys.stdin.buffer:
+        streams.write_json_line(answer(line.rstrip(b"\r\n"), given))
+    return 0
+
+
+def answer(data, given):
+    """What is said of one scenario. Whatever it throws costs it alone."""
+    try:
+        return Said(data, given.net, given.timeout).data()
+    except Wrong as wrong:
+        return {"refused": wrong.refusal.data()}
+    except (running.Failed, play_text.NoPlay) as failure:
+        return {"failed": str(failure)}
+    except Exception as error:
+        return {"failed": streams.fault(error)}

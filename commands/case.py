@@ -239,9 +239,8 @@ class Case:
     @property
     def nearest_rule(self):
         """A sentence on the rules that the server has."""
-        rules = self.scenario.servers()[self.answer.server]["rules"]
-        told = sorted({" ".join(filter(None, [rule.get("method", ""), rule.get("path", "any path")])) for rule in rules})
-        return "its rules are for " + ", ".join(told[:8]) if told else "it has no rules"
+        told = self.scenario.told_rules(self.answer.server)
+        return "its rules are for " + ", ".join(told) if told else "it has no rules"
 
     @cached_property
     def needs(self):
@@ -571,11 +570,8 @@ class Case:
     @property
     def near_server(self):
         """A sentence on what the scenario has for the same host."""
-        origins = [one["origin"] for one in self.scenario.servers()]
-        host = urlsplit(self.request.origin).hostname
-        near = [origin for origin in origins if urlsplit(origin).hostname == host]
-        told = near or origins
-        return "it has %s" % ", ".join(dict.fromkeys(told[:8])) if told else "it has none"
+        told = self.scenario.near_origins(urlsplit(self.request.origin).hostname)
+        return "it has %s" % ", ".join(told) if told else "it has none"
 
     @property
     def first_bytes(self):

@@ -1,12 +1,15 @@
-"""Warnings: what a scenario may say, and surely is meant otherwise. Each is a place of the text and a sentence."""
+"""Warnings: what a scenario may say, and surely is meant otherwise. Each is a place of the text and a sentence. All of them
+take time in proportion to the scenario and its play, however many rules, keys or origins these have."""
 from urllib.parse import urlsplit
+
+from commands import lints
 
 METHODS = ("DELETE", "GET", "HEAD", "OPTIONS", "POST", "PUT")
 
 
 def doubts(scenario, play, is_net):
     """All of them, by their places; `play` is None where it was not played."""
-    found = list(double_keys(scenario.root))
+    found = list(double_keys(scenario.root)) + lints.of_scenario(scenario)
     if not is_net:
         found += rules_without_use(scenario)
         found += servers_without_use(scenario)
@@ -19,11 +22,13 @@ def doubts(scenario, play, is_net):
 
 
 def nodes_of(root):
-    yield root
-    for _, value in root.members:
-        yield from nodes_of(value)
-    for item in root.items:
-        yield from nodes_of(item)
+    """All nodes of a tree, in no order."""
+    left = [root]
+    while left:
+        node = left.pop()
+        yield node
+        left += node.items
+        left += [value for _, value in node.members]
 
 
 def double_keys(root):
@@ -35,6 +40,8 @@ def double_keys(root):
             seen.add(key.value)
 
 
+# ---- servers and rules
+
 def servers_without_use(scenario):
     """Those behind another of the same origin."""
     nodes = scenario.root.member("servers")
@@ -43,29 +50,41 @@ def servers_without_use(scenario):
             yield nodes.items[index].start, "another server of %s stands before this one, and answers all its requests" % server["origin"]
 
 
+def rule_nodes(scenario, server):
+    """The rules of a server, by its number, as they stand in the text."""
+    return scenario.root.member("servers").items[server].member("rules").items
+
+
 def rules_without_use(scenario):
     """Those that no request can meet: behind a rule that takes all that they take, or of no request's form."""
-    nodes = scenario.root.member("servers")
     for number, server in enumerate(scenario.servers()):
-        items = nodes.items[number].member("rules").items
-        for index, rule in enumerate(server["rules"]):
-            sentence = no_use(rule, server["rules"][:index])
-            if sentence:
-                yield items[index].start, sentence
+        yield from without_use(server["rules"], rule_nodes(scenario, number))
 
 
-# The request target that was meant by a path without a slash at its beginning: of a whole URL its own.
+def without_use(rules, nodes):
+    first = {}  # the number of the first rule with this method and this path; None is any
+    for index, rule in enumerate(rules):
+        method, path = rule.get("method"), rule.get("path")
+        wider = [first[key] for key in {(method, path), (method, None), (None, path), (None, None)} if key in first]
+        sentence = taken_by(min(wider)) if wider else no_use(rule.get("path", "/"), rule.get("method", "GET"))
+        if sentence:
+            yield nodes[index].start, sentence
+        first.setdefault((method, path), index)
+
+
+def taken_by(index):
+    return "rule %d of this server takes all requests of this rule, which stands behind it" % index
+
+
 def target_of(path):
+    """The request target that was meant by a path without a slash at its beginning: of a whole URL its own."""
     if "://" not in path:
         return "/" + path
     return "/" + path.partition("://")[2].partition("#")[0].partition("/")[2]
 
 
-def no_use(rule, before):
-    for index, other in enumerate(before):
-        if all(key not in other or other[key] == rule.get(key) for key in ("method", "path")):
-            return "rule %d of this server takes all requests of this rule, which stands behind it" % index
-    path, method = rule.get("path", "/"), rule.get("method", "GET")
+def no_use(path, method):
+    """Why no request has this path or this method; None where one may."""
     if not path.startswith("/"):
         return 'no request has the path "%s": write "%s"' % (path, target_of(path))
     if "#" in path:
@@ -75,16 +94,51 @@ def no_use(rule, before):
     return None
 
 
+def rules_beside(scenario, play):
+    """A rule that no request met, where a request to its server met none."""
+    met, unmet = set(), {}
+    for request in play.requests():
+        server = scenario.server_of(request.origin)
+        index = None if server is None else scenario.rule_of(server, request)
+        if index is not None:
+            met.add((server, index))
+        elif server is not None:
+            unmet.setdefault(server, {}).setdefault(folded(request.target), "%s %s" % (request.method, request.target))
+    for server, targets in unmet.items():
+        yield from beside(scenario, server, targets, met)
+
+
+def beside(scenario, server, targets, met):
+    """Of a server's rules that were not met those whose path is nearly the target of a request."""
+    nodes = rule_nodes(scenario, server)
+    for index, rule in enumerate(scenario.servers()[server]["rules"]):
+        target = targets.get(folded(rule.get("path", "")))
+        if target is not None and (server, index) not in met:
+            yield nodes[index].start, "no request of this play meets this rule, and no rule takes %s" % target
+
+
+def folded(path):
+    """A path without what is easily overlooked: a slash at the end, the query, the case of letters."""
+    return path.partition("?")[0].rstrip("/").lower()
+
+
+# ---- origins
+
+def host_of(origin):
+    return urlsplit(origin).hostname
+
+
 def origins_without_server(scenario, play, is_net):
     known = [origin for origin, _ in scenario.data.get("routes", [])] if is_net else [one["origin"] for one in scenario.servers()]
+    by_host = {host_of(one): one for one in reversed(known)}
     what = "route" if is_net else "server"
-    told = set()
+    told = set(known)
     for fetch in play.fetches():
         for request in fetch.of("send"):
-            if request.origin not in known and request.origin not in told:
+            if request.origin not in told:
                 told.add(request.origin)
-                near = [one for one in known if urlsplit(one).hostname == urlsplit(request.origin).hostname]
-                more = ": there is one of %s" % near[0] if near else ""
+                near = by_host.get(host_of(request.origin))
+                more = ": there is one of " + near if near else ""
                 yield place_of(scenario, fetch), "%s asks %s, and no %s is of this origin%s" % (fetch.name, request.origin, what, more)
 
 
@@ -98,37 +152,10 @@ def place_of(scenario, fetch):
 def cookies_elsewhere(scenario, play):
     """A cookie of an origin that is not asked, where another origin of its host is."""
     asked = {request.origin for request in play.requests()}
+    by_host = {host_of(one): one for one in sorted(asked, reverse=True)}
     node = scenario.root.member("cookies")
     for index, (origin, _) in enumerate(scenario.data.get("cookies", [])):
-        near = sorted(one for one in asked if urlsplit(one).hostname == urlsplit(origin).hostname)
+        near = by_host.get(host_of(origin))
         if origin not in asked and near:
             yield node.items[index].start, "this cookie is of %s, and the requests go to %s: a scenario's cookies have a scheme and a port" % (
-                origin, near[0])
-
-
-def rules_beside(scenario, play):
-    """A rule that no request met, where a request to its server met none."""
-    met, unmet = set(), set()
-    for request in play.requests():
-        server = scenario.server_of(request.origin)
-        if server is None:
-            continue
-        rules = scenario.servers()[server]["rules"]
-        index = next((number for number, rule in enumerate(rules) if takes(rule, request)), None)
-        (unmet if index is None else met).add((server, index if index is not None else request.method + " " + request.target))
-    for server, target in sorted(unmet):
-        for index, rule in enumerate(scenario.servers()[server]["rules"]):
-            if (server, index) not in met and is_close(rule.get("path", ""), target.partition(" ")[2]):
-                node = scenario.root.member("servers").items[server].member("rules").items[index]
-                yield node.start, "no request of this play meets this rule, and no rule takes %s" % target
-
-
-def takes(rule, request):
-    return rule.get("method", request.method) == request.method and rule.get("path", request.target) == request.target
-
-
-def is_close(path, target):
-    """Whether two paths are the same but for a slash at the end, the query or the case of letters."""
-    def plain(text):
-        return text.partition("?")[0].rstrip("/").lower()
-    return plain(path) == plain(target)
+                origin, near)

@@ -3,29 +3,35 @@ import functools
 import os
 import re
 
-from commands import asking, play_text, refusals, results, running
+from commands import (asking, findings, json_text, lints, play_text, policy_questions, refusals, results, running,
+                      streams)
 from commands.asking import Wrong
 from commands.explanations import TABLE
 from commands.schema import Schema
 
 SCHEMA = os.path.join(running.ROOT, "schema", "expect.schema.json")
 WAYS = [way.name for way in TABLE]
-KEY = re.compile(r"(?:document (\d+) )?(fetch|load) (\d+)")
+OTHERS = ("sent", "never sent", *policy_questions.KEYS)  # the keys of `expect` that name no fetch
+KEY = re.compile(r"(?:document ([0-9]{1,3}) )?(fetch|load) ([0-9]{1,4})")
+DIRECTIVES = ["connect-src", "img-src", "media-src", "font-src", "manifest-src", "style-src-elem", "script-src-elem"]
+# As a play prints it behind the word violation, as far as a test says it.
+VIOLATION = re.compile(r"(?:([0-9]{1,2}) )?(?:(enforce|report) )?(\S+)(?: (\S+))?")
 
 
 class Outcome:
-    """Of one test: its name, and lines for each thing that came otherwise."""
+    """Of one test: its name, lines for each thing that came otherwise, and what is warned of."""
 
-    def __init__(self, name, lines):
+    def __init__(self, name, lines, warnings=()):
         self.name = name
         self.lines = lines
+        self.warnings = list(warnings)
 
     @property
     def is_met(self):
         return not self.lines
 
     def data(self):
-        return {"test": self.name, "ok": self.is_met, "told": self.lines}
+        return {"test": self.name, "ok": self.is_met, "told": self.lines, "warnings": self.warnings}
 
 
 class Test:
@@ -44,30 +50,77 @@ def schema_of_tests():
     return Schema(SCHEMA)
 
 
+# ---- tests that are none
+
 def check(text, root):
     """A test that is no test is refused with its place."""
     schema = schema_of_tests()
     problems = schema.check(root)
+    if problems and root.kind == "object" and root.member("documents") and not root.member("expect"):
+        raise Wrong(refusals.Refusal(text, root.start, "/", "this is a scenario, and no test: bin/why plays it; a test has the "
+                                     'keys "scenario" and "expect"'))
     if problems:
         first = min(problems, key=lambda problem: problem.kind == "missing")  # that may be a misspelt one
         raise Wrong(refusals.of_problem(text, first, schema))
     for key, value in root.member("expect").members:
-        if key.value in ("sent", "never sent"):
-            continue
+        for node, place, sentence in wrongs(key, value):
+            raise Wrong(refusals.Refusal(text, node.start, "/expect/" + place, sentence))
+
+
+def wrongs(key, value):
+    """What is wrong at a key of `expect`: a node, its place, and a sentence."""
+    if key.value in policy_questions.KEYS:
+        yield from of_items(value, key.value, policy_questions.problem)
+    elif key.value not in OTHERS:
         if not KEY.fullmatch(key.value):
-            raise Wrong(refusals.Refusal(text, key.start, "/expect/" + key.value, 'the key "%s" names no fetch: write "fetch 0", '
-                                         '"load 2", "document 1 fetch 0", "sent" or "never sent"' % key.value))
-        result = value if value.kind == "string" else value.member("result")
-        word = results.unknown_word(result.value)
-        if word is not None:
-            meant = refusals.nearest(word, results.WORDS)
-            raise Wrong(refusals.Refusal(text, result.start, "/expect/" + key.value, 'no result has the word "%s": write %s' % (
-                word, '"%s"' % meant if meant else "read, refused, or a result as it is printed")))
-        why = value.member("why") if value.kind == "object" else None
-        if why is not None and why.value not in WAYS:
-            meant = refusals.nearest(why.value, WAYS)
-            raise Wrong(refusals.Refusal(text, why.start, "/expect/%s/why" % key.value, 'no way has the name "%s": write %s' % (
-                why.value, '"%s"' % meant if meant else "one of those that bin/why --ways lists")))
+            yield key, key.value, 'the key "%s" names no fetch: write "fetch 0", "load 2", "document 1 fetch 0", or one of %s' % (
+                key.value, ", ".join('"%s"' % one for one in OTHERS))
+        yield from of_outcome(key.value, value)
+
+
+def of_items(value, place, problem):
+    """The first item that is wrong, of one or of a list."""
+    for node in value.items if value.kind == "list" else [value]:
+        sentence = problem(node.value)
+        if sentence:
+            yield node, place, sentence
+
+
+def of_outcome(place, value):
+    yield from of_items(value if value.kind == "string" else value.member("result"), place, result_problem)
+    if value.kind == "object":
+        for name, problem in (("why", way_problem), ("violations", violation_problem)):
+            if value.member(name) is not None:
+                yield from of_items(value.member(name), "%s/%s" % (place, name), problem)
+
+
+def result_problem(wanted):
+    word = results.unknown_word(negated(wanted)[1])
+    if word is None:
+        return None
+    meant = refusals.nearest(word, results.WORDS)
+    return 'no result has the word "%s": write %s' % (
+        word, '"%s"' % meant if meant else "read, refused, a result as it is printed, or not and one of these")
+
+
+def way_problem(wanted):
+    if wanted in WAYS:
+        return None
+    meant = refusals.nearest(wanted, WAYS)
+    return 'no way has the name "%s": write %s' % (
+        wanted, '"%s"' % meant if meant else "one of those that bin/why --ways lists")
+
+
+def violation_problem(wanted):
+    found = VIOLATION.fullmatch(wanted)
+    if found is None:
+        return 'a violation is written as it is printed, or a part of it: "0 enforce connect-src", or "connect-src"'
+    name = found.group(3)
+    if name in DIRECTIVES:
+        return None
+    meant = refusals.nearest(name + "-elem", DIRECTIVES) or refusals.nearest(name, DIRECTIVES)
+    return 'no violation has the directive "%s": write %s' % (
+        name, '"%s"' % meant if meant else "one of " + ", ".join(DIRECTIVES))
 
 
 def scenario_of(node, text, path):
@@ -83,30 +136,50 @@ def scenario_of(node, text, path):
         raise Wrong(refusals.Refusal(text, node.start, "/scenario", "%s: %s" % (name, error.strerror))) from error
 
 
-def outcome(path, data, is_net, patience):
-    """Plays one test."""
+# ---- one test
+
+def outcome(path, data, is_net, patience, is_strict=False):
+    """Plays one test. Whatever it throws costs it alone. A strict one is not met where a lint finds a fault."""
     name = path or "standard input"
     try:
-        test = Test(path, data)
+        return outcome_of(Test(path, data), is_net, patience, is_strict)
     except Wrong as wrong:
         return Outcome(name, wrong.refusal.told(name))
+    except Exception as error:
+        return Outcome(name, [streams.fault(error)])
+
+
+def outcome_of(test, is_net, patience, is_strict):
     try:
-        _, _, told = asking.played(test.scenario, is_net, patience)
+        text, scenario, told = asking.played(test.scenario, is_net, patience)
+        lines = [*differences(test.expect, told), *policy_questions.differences(test.expect, scenario)]
     except Wrong as wrong:
         return Outcome(test.name, wrong.refusal.told(test.scenario_name))
     except (running.Failed, play_text.NoPlay) as failure:
         return Outcome(test.name, [str(failure)])
-    return Outcome(test.name, list(differences(test.expect, told)))
+    warned = list(warnings(text, scenario, told, test.scenario_name, is_net))
+    faults = [line for line, is_fault in warned if is_fault and is_strict]
+    return Outcome(test.name, lines + faults, [line for line, _ in warned])
+
+
+def warnings(text, scenario, told, name, is_net):
+    """Lines, and of each whether it tells a fault: a note of what a play does not look at is none."""
+    places = json_text.Places(text)
+    for place, finding in lints.in_scenario(scenario):
+        yield "warning: %s:%d:%d: %s" % (name, *places.of(place), finding.sentence), not finding.lint.is_note
+    for one in lints.of_answers(told) if is_net else []:
+        yield "warning: %s: %s: %s" % one, True
 
 
 def differences(expect, told):
+    cases = {(case.fetch.document.number, case.fetch.name): case for case in told.cases}
     for key, wanted in expect.items():
         if key == "sent":
             yield from missing(told, listed(wanted))
         elif key == "never sent":
             yield from unwanted(told, listed(wanted))
-        else:
-            yield from of_fetch(key, wanted, told)
+        elif key not in policy_questions.KEYS:
+            yield from of_fetch(key, wanted, cases)
 
 
 def listed(wanted):
@@ -124,9 +197,10 @@ def named(request):
 
 
 def missing(told, wanted):
+    requests = told.play.requests()
     for one in wanted:
-        if not any(is_request(one, request) for request in told.play.requests()):
-            sent = ", ".join(map(named, told.play.requests()[:20])) or "nothing"
+        if not any(is_request(one, request) for request in requests):
+            sent = ", ".join(map(named, requests[:20])) or "nothing"
             yield "sent: expected %s; sent were %s" % (one, sent)
 
 
@@ -138,12 +212,13 @@ def unwanted(told, wanted):
                     yield "never sent: expected no %s; %s sent %s" % (one, case.fetch.name, named(request))
 
 
-def of_fetch(key, wanted, told):
+# ---- one fetch
+
+def of_fetch(key, wanted, cases):
     document, kind, number = KEY.fullmatch(key).groups()
-    case = next((one for one in told.cases if one.fetch.document.number == int(document or 0)
-                 and one.fetch.name == "%s %s" % (kind, number)), None)
+    case = cases.get((int(document or 0), "%s %d" % (kind, int(number))))
     if case is None:
-        has = ", ".join(one.fetch.name for one in told.cases[:20]) or "none"
+        has = ", ".join(name for _, name in list(cases)[:20]) or "none"
         yield "%s: there is none; the play has %s" % (key, has)
         return
     wanted = {"result": wanted} if isinstance(wanted, str) else wanted
@@ -154,25 +229,86 @@ def of_fetch(key, wanted, told):
 
 
 def of_case(case, wanted):
-    result = case.result
-    if not results.is_met(wanted["result"], result):
-        yield "expected %s; it came to %s" % (wanted["result"], result.short())
-    if "why" in wanted and (case.explanation is None or case.explanation.way != wanted["why"]):
-        yield "expected the way %s; it was %s" % (wanted["why"], case.explanation.way if case.explanation else "none")
-    for name, value in wanted.get("sees", {}).items():
-        values = [own for one, own in result.headers if one.lower() == name.lower()]
+    """What came otherwise of one fetch or load."""
+    if not is_met(wanted["result"], case.result):
+        yield "expected %s; it came to %s" % (wanted["result"], case.result.short())
+    for key, look in LOOKS.items():
+        if key in wanted:
+            yield from look(case, wanted[key])
+
+
+def negated(wanted):
+    """Whether a wanted result is any but the one that follows, and that one."""
+    word, _, rest = wanted.partition(" ")
+    return (True, rest) if word == "not" and rest else (False, wanted)
+
+
+def is_met(wanted, result):
+    is_negated, rest = negated(wanted)
+    return results.is_met(rest, result) is not is_negated
+
+
+def look_at_way(case, wanted):
+    way = case.explanation.way if case.explanation else "none"
+    if way != wanted:
+        yield "expected the way %s; it was %s" % (wanted, way)
+
+
+def look_at_seen(case, wanted):
+    for name, value in wanted.items():
+        values = [own for one, own in case.result.headers if one.lower() == name.lower()]
         if not values or ", ".join(values) != value:
             yield "expected to see %s: %s; %s" % (name, value, "it sees " + ", ".join(values) if values else "it sees none")
-    for name in wanted.get("hides", []):
-        if any(one.lower() == name.lower() for one, _ in result.headers):
+
+
+def look_at_hidden(case, wanted):
+    for name in wanted:
+        if any(one.lower() == name.lower() for one, _ in case.result.headers):
             yield "expected not to see %s; it sees it" % name
-    if "body" in wanted and result.body != wanted["body"].encode("utf-8"):
-        came = "none that is whole" if result.body is None else result.body[:200].decode("utf-8", "replace")
-        yield "expected the body %s; it read %s" % (wanted["body"], came)
+
+
+def look_at_body(case, wanted):
+    body = case.result.body
+    if body != wanted.encode("utf-8"):
+        came = "none that is whole" if body is None else body[:200].decode("utf-8", "replace")
+        yield "expected the body %s; it read %s" % (wanted, came)
+
+
+def look_at_requests(case, wanted):
     requests = [request for request, _ in case.exchanges]
-    if "sent" in wanted and not (len(requests) == len(wanted["sent"]) and all(map(is_request, wanted["sent"], requests))):
+    if not (len(requests) == len(wanted) and all(map(is_request, wanted, requests))):
         yield "expected that it sends %s; it sent %s" % (
-            ", ".join(wanted["sent"]) or "nothing", ", ".join(map(named, requests)) or "nothing")
+            ", ".join(wanted) or "nothing", ", ".join(map(named, requests)) or "nothing")
+
+
+def look_at_violations(case, wanted):
+    """Each violation is expected, and each expected one comes, be it once or more: a report-only policy is told at the
+    request and at the response."""
+    form = "%(policy)d %(disposition)s %(directive)s %(url)s"
+    came = list(dict.fromkeys(form % one for one in findings.violations(case)))
+    for one in wanted:
+        if not any(is_part(one, violation) for violation in came):
+            yield "expected the violation %s; there is %s" % (one, "; ".join(came) or "none")
+    for violation in came:
+        if not any(is_part(one, violation) for one in wanted):
+            yield "expected no other violation; there is %s" % violation
+
+
+def is_part(wanted, violation):
+    """Whether a violation has all words that a test says of it."""
+    return all(own in (None, other) for own, other in zip(VIOLATION.fullmatch(wanted).groups(), violation.split(" ", 3)))
+
+
+def look_at_upgrades(case, wanted):
+    came = findings.upgrades(case)
+    if came != listed(wanted):
+        yield "expected that it is upgraded to %s; it was to %s" % (
+            ", ".join(listed(wanted)) or "nothing", ", ".join(came) or "nothing")
+
+
+# What a test may say of a fetch beside its result.
+LOOKS = {"why": look_at_way, "sees": look_at_seen, "hides": look_at_hidden, "body": look_at_body,
+         "sent": look_at_requests, "violations": look_at_violations, "upgraded": look_at_upgrades}
 
 
 # ---- many tests

@@ -2,6 +2,7 @@
 
 What is taken is what the program takes: RFC 8259 in UTF-8, nested no more than 127 deep. A place is a number of characters
 from the beginning."""
+import bisect
 import re
 
 DEEPEST = 127
@@ -79,6 +80,18 @@ def place_of(text, at):
     return text.count("\n", 0, at) + 1, at - text.rfind("\n", 0, at)
 
 
+class Places:
+    """Places of one text: its lines are looked for once, since many places of it may be told."""
+
+    def __init__(self, text):
+        self.starts = [0] + [found.end() for found in re.finditer("\n", text)]
+
+    def of(self, at):
+        """The line and the column, from 1."""
+        line = bisect.bisect_right(self.starts, at)
+        return line, at - self.starts[line - 1] + 1
+
+
 class Reader:
     def __init__(self, text):
         self.text = text
@@ -148,9 +161,11 @@ class Reader:
     @staticmethod
     def number(node):
         node.kind = "number"
-        node.value = int(node.text) if node.is_whole() else float(node.text)
+        node.value = float(node.text)
         if node.value in (float("inf"), float("-inf")):
             raise Fault(node.start, "this number is greater than any that is read")
+        if node.is_whole():  # and so of no more digits than Python takes
+            node.value = int(node.text)
 
     @staticmethod
     def no_value(sign, word):

@@ -1,4 +1,5 @@
 """A scenario as it was read, and which command of its scripts each fetch of a play is."""
+import functools
 import re
 from urllib.parse import urljoin, urlsplit
 
@@ -113,22 +114,73 @@ class Walk:
                 yield from self.commands(command.get(way, []), own + [way])
 
 
+def target_of(rule):
+    """The request target that a rule wants, a character for each byte, as a play has it."""
+    return rule["path"].encode("utf-8").decode("latin-1") if "path" in rule else None
+
+
 class Scenario:
     """`root` is its tree, and `data` the same as Python has it."""
 
     def __init__(self, root):
         self.root = root
         self.data = root.plain()
+        self.rules_by = {}
+        self.told_by = {}
 
     def servers(self):
         return self.data.get("servers", [])
 
     def server_of(self, origin):
         """The number of the first server of an origin, or None."""
-        return next((index for index, one in enumerate(self.servers()) if one["origin"] == origin), None)
+        return self.first_servers.get(origin)
+
+    @functools.cached_property
+    def first_servers(self):
+        found = {}
+        for index, one in enumerate(self.servers()):
+            found.setdefault(one["origin"], index)
+        return found
+
+    def rule_of(self, server, request):
+        """The number of the first rule of a server that takes a request, or None."""
+        rules = self.first_rules(server)
+        keys = [(method, target) for method in (None, request.method) for target in (None, request.target)]
+        return min((rules[key] for key in keys if key in rules), default=None)
+
+    def first_rules(self, server):
+        """The numbers of a server's rules by method and request target, None where a rule has none; of equal ones the
+        first."""
+        if server not in self.rules_by:
+            backwards = reversed(list(enumerate(self.servers()[server]["rules"])))
+            self.rules_by[server] = {(rule.get("method"), target_of(rule)): index for index, rule in backwards}
+        return self.rules_by[server]
+
+    def told_rules(self, server):
+        """Some of the requests that a server has rules for, in words."""
+        if server not in self.told_by:
+            rules = self.servers()[server]["rules"]
+            told = {" ".join(filter(None, [rule.get("method", ""), rule.get("path", "any path")])) for rule in rules}
+            self.told_by[server] = sorted(told)[:8]
+        return self.told_by[server]
+
+    def near_origins(self, host):
+        """Some of the servers' origins: those of a host, or any where it has none."""
+        return list(self.origins_by_host.get(host) or self.first_servers)[:8]
+
+    @functools.cached_property
+    def origins_by_host(self):
+        found = {}
+        for origin in self.first_servers:
+            found.setdefault(urlsplit(origin).hostname, []).append(origin)
+        return found
 
     def route_of(self, origin):
-        return next((address for own, address in self.data.get("routes", []) if own == origin), None)
+        return self.routes.get(origin)
+
+    @functools.cached_property
+    def routes(self):
+        return {origin: address for origin, address in reversed(self.data.get("routes", []))}
 
     def documents(self):
         return self.data["documents"]

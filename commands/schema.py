@@ -3,7 +3,8 @@ may stand there, and what the schema says of it. Whole numbers are looked at as 
 import json
 import re
 
-KINDS = {"object": "object", "array": "list", "string": "string", "integer": "number", "boolean": "word"}
+KINDS = {"object": "object", "array": "list", "string": "string", "integer": "number", "boolean": "word",
+         "null": "word"}
 
 
 class Problem:
@@ -34,6 +35,8 @@ class Problem:
 
 
 class Schema:
+    """A schema of a file, with its patterns as they were compiled."""
+
     def __init__(self, path):
         with open(path, encoding="utf-8") as file:
             self.root = json.load(file)
@@ -44,7 +47,7 @@ class Schema:
     def check(self, root):
         """The problems of a tree, in the order of their places; one for each node and each key that it lacks."""
         found = {}
-        for problem in self.problems(root, self.root, []):
+        for problem in Check(self).problems(root, self.root, []):
             found.setdefault((problem.node.start, problem.name if problem.kind == "missing" else None), problem)
         return sorted(found.values(), key=lambda problem: problem.node.start)
 
@@ -55,8 +58,36 @@ class Schema:
         own = {key: value for key, value in schema.items() if key != "$ref"}
         return [own] + self.linked(self.root["$defs"][schema["$ref"].rpartition("/")[2]])
 
+    def matches(self, text, schema):
+        """Whether a text matches the pattern, where there is one."""
+        if "pattern" not in schema:
+            return True
+        if schema["pattern"] not in self.patterns:
+            self.patterns[schema["pattern"]] = re.compile(schema["pattern"])
+        return self.patterns[schema["pattern"]].search(text) is not None
+
+    def owners(self, name):
+        """The definitions that have this key."""
+        return [one for one in self.root["$defs"].values() if name in one.get("properties", {})]
+
+
+class Check:
+    """One check of a tree. Whether a node fits a form is kept: each form around it asks again, so that of commands inside
+    each other each level would double the time."""
+
+    def __init__(self, schema):
+        self.schema = schema
+        self.kept = {}
+
+    def fits(self, node, form):
+        """Whether a node has no problem by a form."""
+        key = id(node), id(form)
+        if key not in self.kept:
+            self.kept[key] = next(self.problems(node, form, []), None) is None
+        return self.kept[key]
+
     def problems(self, node, schema, path):
-        schemas = self.linked(schema)
+        schemas = self.schema.linked(schema)
         for one in schemas:
             yield from self.own(node, one, path, schemas)
 
@@ -78,19 +109,21 @@ class Schema:
 
     def of_object(self, node, schema, path, schemas):
         properties = schema.get("properties", {})
+        others = schema.get("additionalProperties")
+        last = {key.value: value for key, value in node.members}
         for key, value in node.members:
             own = properties.get(key.value)
             if own is False:
                 yield Problem("beside", key, path, schemas, name=key.value)
-            elif own is None and schema.get("additionalProperties") is False:
+            elif own is None and others is False:
                 yield Problem("unknown", key, path, schemas, name=key.value, wanted=list(properties))
-            elif own is None and isinstance(schema.get("additionalProperties"), dict):
-                yield from self.problems(value, schema["additionalProperties"], path + [key.value])
-            elif own is not None and node.member(key.value) is value:
+            elif own is None and isinstance(others, dict):
+                yield from self.problems(value, others, path + [key.value])
+            elif own is not None and last[key.value] is value:
                 yield from self.problems(value, own, path + [key.value])
         for name in schema.get("required", []):
-            if node.member(name) is None:
-                yield Problem("missing", node, path, self.linked(properties.get(name, {})), name=name)
+            if name not in last:
+                yield Problem("missing", node, path, self.schema.linked(properties.get(name, {})), name=name)
 
     def of_list(self, node, schema, path, schemas):
         least, most = schema.get("minItems", 0), schema.get("maxItems", len(node.items))
@@ -105,15 +138,9 @@ class Schema:
 
     def of_text(self, node, schema, path, schemas):
         length = len(node.value)
-        if not schema.get("minLength", 0) <= length <= schema.get("maxLength", length) or not self.fits(node.value, schema):
+        has_length = schema.get("minLength", 0) <= length <= schema.get("maxLength", length)
+        if not has_length or not self.schema.matches(node.value, schema):
             yield Problem("text", node, path, schemas)
-
-    def fits(self, text, schema):
-        if "pattern" not in schema:
-            return True
-        if schema["pattern"] not in self.patterns:
-            self.patterns[schema["pattern"]] = re.compile(schema["pattern"])
-        return self.patterns[schema["pattern"]].search(text) is not None
 
     @staticmethod
     def of_number(node, schema, path, schemas):
@@ -123,14 +150,13 @@ class Schema:
 
     def of_conditions(self, node, schema, path):
         if "if" in schema:
-            holds = not any(self.problems(node, schema["if"], path))
-            branch = schema.get("then" if holds else "else")
+            branch = schema.get("then" if self.fits(node, schema["if"]) else "else")
             if branch is not None:
                 yield from self.problems(node, branch, path)
 
     def of_alternatives(self, node, schema, path, schemas):
         forms = schema.get("oneOf", [])
-        if not forms or sum(not any(self.problems(node, one, path)) for one in forms) == 1:
+        if not forms or sum(self.fits(node, one) for one in forms) == 1:
             return
         meant = [one for one in forms if self.is_meant(node, one)]
         if len(meant) == 1:
@@ -140,7 +166,7 @@ class Schema:
 
     def is_meant(self, node, form):
         """Whether a node begins as an alternative does: by a key that it must have, or by its first item."""
-        for one in self.linked(form):
+        for one in self.schema.linked(form):
             if node.kind == "object" and any(key.value in one.get("required", []) for key, _ in node.members):
                 return True
             first = one["const"][:1] if "const" in one else [part.get("const") for part in one.get("prefixItems", [])[:1]]
@@ -150,15 +176,17 @@ class Schema:
                 return True
         return False
 
-    def owners(self, name):
-        """The definitions that have this key."""
-        return [one for one in self.root["$defs"].values() if name in one.get("properties", {})]
+
+def is_of_type(node, kinds):
+    """Whether a node has a type, or one of a list of them."""
+    return any(is_of_kind(node, kind) for kind in ([kinds] if isinstance(kinds, str) else kinds))
 
 
-def is_of_type(node, kind):
+def is_of_kind(node, kind):
     if node.kind != KINDS[kind]:
         return False
-    return {"integer": node.is_whole(), "boolean": isinstance(node.value, bool)}.get(kind, True)
+    more = {"integer": node.is_whole(), "boolean": isinstance(node.value, bool), "null": node.value is None}
+    return more.get(kind, True)
 
 
 def is_equal(node, value):

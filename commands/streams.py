@@ -1,15 +1,16 @@
-"""What the commands read and print. Where the reader of what is printed is gone nothing more is said."""
-import argparse
-import json
+"""What the commands read and print. Where the reader of what is printed is gone nothing more is said.
+
+Some modules are imported where they are used: most calls do without, and each of them costs as much as a play."""
 import os
 import re
 import signal
 import sys
-import traceback
 
 
 # What a terminal takes for an order, or turns lines around.
 CONTROL = re.compile("[\x00-\x1f\x7f-\x9f\u2028-\u202e\u2066-\u2069]")
+# A half of a surrogate pair, which no reader of JSON takes: a template may put bytes that are no UTF-8 into a URL.
+HALF = re.compile("[\ud800-\udfff]")
 
 
 def printable(text):
@@ -41,9 +42,28 @@ def write_lines(lines):
     write("".join(printable(line) + "\n" for line in lines))
 
 
-def write_json(data):
+def write_json(data, **how):
     """As JSON, with all that is not ASCII told by its number: a server's answer may have any."""
-    write(json.dumps(data, indent=1) + "\n")
+    import json
+    text = json.dumps(data, **(how or {"indent": 1}))
+    if "\\ud" in text:  # perhaps of a character that is written as a pair
+        text = json.dumps(without_halves(data), **(how or {"indent": 1}))
+    write(text + "\n")
+
+
+def write_json_line(data):
+    """As JSON in one line, which is there for its reader at once."""
+    write_json(data, separators=(",", ":"))
+    sys.stdout.flush()
+
+
+def without_halves(data):
+    """The same data, with a replacement character for each half of a surrogate pair."""
+    if isinstance(data, dict):
+        return {key: without_halves(value) for key, value in data.items()}
+    if isinstance(data, (list, tuple)):
+        return list(map(without_halves, data))
+    return HALF.sub("\ufffd", data) if isinstance(data, str) else data
 
 
 def complain(status, text):
@@ -52,6 +72,14 @@ def complain(status, text):
     lines = [printable(line) + "\n" for line in text.split("\n")]
     sys.stderr.buffer.write("".join(lines).encode("utf-8", "backslashreplace"))
     return status
+
+
+def fault(error):
+    """That a command is wrong itself, in a sentence: the error's type, what it says, and where it comes from."""
+    import traceback
+    place = traceback.extract_tb(error.__traceback__)[-1]
+    return "a fault of this command: %s: %s (%s, line %d)" % (
+        type(error).__name__, str(error).partition("\n")[0], place.filename, place.lineno)
 
 
 def run(main, broken=2):
@@ -69,9 +97,7 @@ def run(main, broken=2):
     except KeyboardInterrupt:
         status = 128 + signal.SIGINT
     except Exception as error:
-        place = traceback.extract_tb(error.__traceback__)[-1]
-        status = complain(broken, "%s: a fault of this command: %s: %s (%s, line %d)" % (
-            os.path.basename(sys.argv[0]), type(error).__name__, str(error).partition("\n")[0], place.filename, place.lineno))
+        status = complain(broken, "%s: %s" % (os.path.basename(sys.argv[0]), fault(error)))
     if status >= 128:
         os.dup2(os.open(os.devnull, os.O_WRONLY), 1)
         os.dup2(os.open(os.devnull, os.O_WRONLY), 2)
@@ -79,6 +105,7 @@ def run(main, broken=2):
 
 
 def seconds(word):
+    import argparse
     number = float(word)
     if not 0 < number <= 3600:
         raise argparse.ArgumentTypeError("more than 0 and at most 3600 seconds")

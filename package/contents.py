@@ -24,11 +24,12 @@ PROGRAMS = [
 
 SCRIPTS = [
     Script("why", "plays a scenario, and says why each fetch came to what it came",
-           ["fiorrudda-why [--net] [--json] [--timeout S] [SCENARIO]", "fiorrudda-why --ways"], ["docs/why.md"],
-           ["--net", "--json", "--timeout", "--ways", "--help"]),
+           ["fiorrudda-why [--net] [--brief|--json] [--timeout S] [SCENARIO]",
+            "fiorrudda-why [--net] [--timeout S] --serve", "fiorrudda-why --ways", "fiorrudda-why --lints"], ["docs/why.md"],
+           ["--net", "--brief", "--json", "--serve", "--timeout", "--ways", "--lints", "--help"]),
     Script("expect", "plays tests: scenarios, each beside what it should come to",
-           ["fiorrudda-expect [--net] [--json] [--jobs N] [--timeout S] TEST.."], ["docs/why.md"],
-           ["--net", "--json", "--jobs", "--timeout", "--help"]),
+           ["fiorrudda-expect [--net] [--strict] [--json] [--jobs N] [--timeout S] TEST.."], ["docs/why.md"],
+           ["--net", "--strict", "--json", "--jobs", "--timeout", "--help"]),
     Script("view", "draws a play as a sequence diagram",
            ["fiorrudda-view [SCENARIO] [-o FILE] [--open]", "fiorrudda-view --text PLAY [-o FILE] [--open]"],
            ["docs/view.md"], ["--text", "-o", "--open", "--help"]),
@@ -43,6 +44,7 @@ FORMATS = [Format("fiorrudda-scenario", "the scenarios that fetchplay plays", ["
 
 # Folders that go in whole, by the endings of their files.
 FOLDERS = {
+    "commands/lints": (".py",),
     "docs": (".md", ".png"),
     "examples": (".json", ".md", ".out", ".err", ".table"),
     "gallery": (".json", ".md", ".txt"),
@@ -51,8 +53,9 @@ FOLDERS = {
 
 # What scripts need of the folders that have checks beside it.
 VIEW = ["page.html", "page.py", "telling.py", "view.css"]
-COMMANDS = ["answers.py", "asking.py", "auditing.py", "case.py", "changes.py", "csp.py", "doubts.py", "edits.py", "expectations.py",
-            "explanations.py", "guards.py", "json_text.py", "needs.py", "notes.py", "play_text.py", "refusals.py", "relay.py",
-            "results.py", "running.py", "scenario.py", "schema.py", "streams.py", "told.py", "urls.py"]
+COMMANDS = ["answers.py", "asking.py", "auditing.py", "case.py", "changes.py", "csp.py", "doubts.py", "edits.py",
+            "expectations.py", "explanations.py", "findings.py", "guards.py", "json_text.py", "needs.py", "notes.py",
+            "play_text.py", "policy_questions.py", "refusals.py", "relay.py", "results.py", "running.py", "scenario.py",
+            "schema.py", "streams.py", "summaries.py", "told.py", "urls.py"]
 PLAYGROUND = ["page.html", "playground.css", "documents.py", "gate.py", "markdown.py", "page.py", "player.py",
               "peers.py", "questions.py", "serve.py", "turns.py"]

@@ -2,6 +2,7 @@
 import calendar
 import gzip
 import os
+import re
 import shutil
 import time
 
@@ -11,6 +12,7 @@ from playground import page as playground_page
 from view import page as view_page
 
 SHARE = "usr/share/fiorrudda"
+INTERPRETER = re.compile(r"\A#!/usr/bin/env (?:-S )?python3")
 COMPLETION = """# bash completion of %(name)s
 complete %(files)s-W '%(words)s' %(name)s
 """
@@ -78,7 +80,7 @@ class Tree:
             for name in names:
                 self.copy(os.path.join(self.root, folder, name), os.path.join(SHARE, folder, name))
         for script in contents.SCRIPTS:
-            text = self.read("bin/" + script.name).replace("#!/usr/bin/env python3\n", "#!/usr/bin/python3\n", 1)
+            text = INTERPRETER.sub("#!/usr/bin/python3", self.read("bin/" + script.name), 1)
             self.write(os.path.join(SHARE, "bin", script.name), text, 0o755)
             self.link("usr/bin/fiorrudda-" + script.name, "../share/fiorrudda/bin/" + script.name)
         for program in contents.PROGRAMS:

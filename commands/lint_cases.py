@@ -1,0 +1,330 @@
+"""For each lint a scenario that has it and one that nearly has it; and policies that are right, which have none."""
+from commands import cases
+from commands.lints import csp, grammar
+
+PAGE, API = cases.PAGE, cases.API
+POLICY, REPORT_ONLY = "Content-Security-Policy", "Content-Security-Policy-Report-Only"
+ORIGIN, CREDENTIALS = "Access-Control-Allow-Origin", "Access-Control-Allow-Credentials"
+METHODS, HEADERS = "Access-Control-Allow-Methods", "Access-Control-Allow-Headers"
+EXPOSED = "Access-Control-Expose-Headers"
+AGE, HSTS, REFERRER = "Access-Control-Max-Age", "Strict-Transport-Security", "Referrer-Policy"
+SHA256, SHA384 = cases.DIGEST["sha256"], cases.DIGEST["sha384"]
+HEX = "ba7816bf8f01cfea414140de5dae2223b00361a396177a9cb410ff61f20015ad"  # of abc
+YEAR = "max-age=31536000"
+ENDPOINTS = ["Reporting-Endpoints", 'csp="https://shop.test/csp"']
+# Words that a directive takes, where it does not take sources.
+OWN_WORDS = {"report-to": "csp", "require-trusted-types-for": "'script'", "webrtc": "'block'", "sandbox": "",
+             "trusted-types": "one"}
+
+
+def page(*headers, asks=(), url=PAGE + "/"):
+    """A document with these headers, and what its script asks for."""
+    return cases.scenario(list(asks), page=url, headers=headers)
+
+
+def csp_of(value, **more):
+    return page([POLICY, value], **more)
+
+
+def report_only(value, *headers, **more):
+    return page([REPORT_ONLY, value], *headers, **more)
+
+
+def answer(*headers, asks=None, origin=API, **more):
+    """A server that answers so, and a page that asks."""
+    asks = [cases.fetch(origin + "/x")] if asks is None else asks
+    return cases.scenario(asks, [cases.rule(200, headers, **more)], origin)
+
+
+def cors(value, *headers, **more):
+    return answer([ORIGIN, value], *headers, **more)
+
+
+def hsts(value, origin=API):
+    return answer([HSTS, value], origin=origin)
+
+
+def asked_by_two(*headers):
+    """One URL, for which pages of two origins ask."""
+    data = answer([ORIGIN, PAGE], *headers)
+    other = cases.scenario(cases.fetch(), page="https://other.test/")["documents"]
+    return {**data, "documents": data["documents"] + other}
+
+
+def preflighted(value, name):
+    """What is answered to the preflight of a fetch with this header."""
+    return answer([ORIGIN, "*"], [HEADERS, value], asks=[cases.fetch(headers=[[name, "1"]])], method="OPTIONS")
+
+
+def text(value, **more):
+    return page(asks=[cases.fetch(PAGE + "/x", integrity=value, **more)])
+
+
+def element(kind, url, **more):
+    return page(asks=[cases.load(kind, url, integrity="sha256-" + SHA256, **more)])
+
+
+def asking(value, url, page_url=PAGE + "/"):
+    return csp_of(value, asks=[cases.fetch(url)], url=page_url)
+
+
+CSP_HEADERS = {
+    "csp/header-misspelt": (page(["Content-Security-Polcy", "default-src 'self'"]), csp_of("default-src 'self'")),
+    "csp/header-obsolete": (page(["X-WebKit-CSP", "default-src 'self'"]), page(["X-Content-Type-Options", "nosniff"])),
+    "csp/name-in-value": (csp_of("Content-Security-Policy: default-src 'self'"),
+                          csp_of("default-src content-security-policy.test")),
+    "csp/policy-in-quotes": (csp_of("\"default-src 'self'\""), csp_of("default-src 'self'")),
+    "csp/comma-for-semicolon": (csp_of("default-src 'none', img-src https://img.test"),
+                                csp_of("default-src 'self', script-src 'nonce-n1'")),
+    "csp/does-nothing": (csp_of("report-uri /csp"), csp_of("report-uri /csp; default-src 'self'")),
+    "csp/report-only-unheard": (report_only("default-src 'self'"), report_only("default-src 'self'; report-uri /csp")),
+    "csp/comma": (csp_of("img-src https://a.test, https://b.test"),
+                  csp_of("img-src https://a.test, font-src https://b.test")),
+}
+CSP_DIRECTIVES = {
+    "csp/directive-with-sign": (csp_of("img-src: 'self'; font-src 'self'"), csp_of("img-src 'self'; font-src 'self'")),
+    "csp/source-as-directive": (csp_of("img-src https://a.test; https://b.test"),
+                                csp_of("img-src https://a.test https://b.test;")),
+    "csp/not-ascii": (csp_of("img-src \u2018self\u2019; font-src 'self'"), csp_of("img-src 'self'; font-src 'self'")),
+    "csp/unknown-directive": (csp_of("script-scr 'self'; img-src 'self'"), csp_of("Script-Src 'self'; img-src 'self'")),
+    "csp/directive-twice": (csp_of("img-src 'self'; img-src https://a.test"),
+                            csp_of("img-src 'self'; font-src https://a.test")),
+    "csp/no-words": (csp_of("img-src"), csp_of("upgrade-insecure-requests")),
+    "csp/needless-words": (csp_of("upgrade-insecure-requests 1"), csp_of("upgrade-insecure-requests; img-src *")),
+    "csp/none-beside-others": (csp_of("img-src 'none' https://a.test"), csp_of("script-src 'none' 'report-sample'")),
+    "csp/star-beside-others": (csp_of("img-src * https://a.test"), csp_of("img-src * data: blob: wss://a.test")),
+    "csp/unsafe-inline-ignored": (csp_of("script-src 'nonce-n1' 'unsafe-inline'"),
+                                  csp_of("script-src 'nonce-n1' 'strict-dynamic' 'unsafe-inline'")),
+    "csp/strict-dynamic-alone": (csp_of("script-src 'strict-dynamic'"),
+                                 csp_of("script-src 'strict-dynamic' 'sha256-%s'" % SHA256)),
+    "csp/unsafe-hashes-alone": (csp_of("script-src 'self' 'unsafe-hashes'"),
+                                csp_of("script-src 'unsafe-hashes' 'sha256-%s'" % SHA256)),
+    "csp/report-only-ignores": (report_only("img-src 'self'; report-uri /csp; upgrade-insecure-requests"),
+                                csp_of("img-src 'self'; report-uri /csp; upgrade-insecure-requests")),
+    "csp/one-word-alone": (csp_of("img-src 'self'; report-to csp other"), csp_of("img-src 'self'; report-to csp")),
+    "csp/url-in-report-to": (csp_of("img-src 'self'; report-to https://shop.test/csp"),
+                             csp_of("img-src 'self'; report-uri https://shop.test/csp")),
+    "csp/name-in-report-uri": (page([POLICY, "img-src 'self'; report-uri csp"], ENDPOINTS),
+                               csp_of("img-src 'self'; report-uri csp")),
+    "csp/report-to-unknown": (page([POLICY, "img-src 'self'; report-to cps"], ENDPOINTS),
+                              page([POLICY, "img-src 'self'; report-to csp"], ENDPOINTS)),
+    **{"csp/obsolete-" + name: (csp_of("img-src 'self'; " + name), csp_of("img-src 'self'; font-src 'self'"))
+       for name in grammar.OBSOLETE},
+}
+CSP_WORDS = {
+    "csp/semicolon-missing": (csp_of("img-src 'self' font-src 'self'"), csp_of("img-src 'self' font-src.test")),
+    "csp/sandbox-word": (csp_of("sandbox allow-script"), csp_of("sandbox allow-scripts")),
+    "csp/trusted-sink": (csp_of("require-trusted-types-for script"), csp_of("require-trusted-types-for 'script'")),
+    "csp/trusted-word": (csp_of("trusted-types none"), csp_of("trusted-types one two 'allow-duplicates'")),
+    "csp/webrtc-word": (csp_of("webrtc block"), csp_of("webrtc 'block'")),
+    "csp/report-over-http": (csp_of("img-src 'self'; report-uri http://shop.test/csp"),
+                             csp_of("img-src 'self'; report-uri http://shop.test/csp", url="http://shop.test/")),
+    "csp/keyword-unquoted": (csp_of("img-src self"), csp_of("img-src self.test")),
+    "csp/nonce-unquoted": (csp_of("script-src nonce-abc"), csp_of("script-src nonce-abc.test")),
+    "csp/hash-unquoted": (csp_of("script-src sha256-" + SHA256), csp_of("script-src 'sha256-%s'" % SHA256)),
+    "csp/other-quotes": (csp_of('img-src "self"'), csp_of("img-src 'self'")),
+    "csp/quote-missing": (csp_of("img-src 'self"), csp_of("img-src https://a.test/it's")),
+    "csp/quoted-with-more": (csp_of("img-src 'self'/img/"), csp_of("img-src 'self' https://a.test/img/")),
+    "csp/unknown-keyword": (csp_of("script-src 'unsafe-inlin'"), csp_of("script-src 'unsafe-inline'")),
+    "csp/host-quoted": (csp_of("img-src 'https://a.test'"), csp_of("img-src https://a.test")),
+    "csp/unsafe-allow-redirects": (csp_of("form-action 'unsafe-allow-redirects' 'self'"), csp_of("form-action 'self'")),
+    "csp/scheme-without-colon": (csp_of("img-src data"), csp_of("img-src data:")),
+    "csp/nonce-characters": (csp_of("script-src 'nonce-{{nonce}}'"), csp_of("script-src 'nonce-a+b/c_d-e=='")),
+    "csp/hash-hex": (csp_of("script-src 'sha256-%s'" % HEX), csp_of("script-src 'sha256-%s'" % SHA256)),
+    "csp/hash-length": (csp_of("script-src 'sha256-%s'" % SHA256.rstrip("=")),
+                        csp_of("script-src 'sha384-%s'" % SHA384)),
+    "csp/hash-algorithm": (csp_of("script-src 'sha1-qZk+NkcGgWq6PiVxeFDCbJzQ2J0='"),
+                           csp_of("script-src 'sha256-%s'" % SHA256)),
+    "csp/nonce-elsewhere": (csp_of("img-src 'nonce-n1'"), csp_of("style-src 'nonce-n1'")),
+    "csp/unsafe-elsewhere": (csp_of("img-src 'unsafe-inline'"), csp_of("style-src 'unsafe-inline'")),
+    "csp/strict-dynamic-elsewhere": (csp_of("img-src 'strict-dynamic'"),
+                                     csp_of("default-src 'strict-dynamic' 'nonce-n1'")),
+}
+CSP_URLS = {
+    "csp/http-on-https": (csp_of("img-src http://a.test"),
+                          csp_of("img-src http://localhost:8080; form-action http://a.test")),
+    "csp/query-or-fragment": (csp_of("img-src https://a.test/i?x=1"), csp_of("img-src https://a.test/i")),
+    "csp/wildcard-inside": (csp_of("img-src https://img*.a.test"), csp_of("img-src https://*.a.test:*")),
+    "csp/wildcard-scheme": (csp_of("img-src *://a.test"), csp_of("img-src *:8443")),
+    "csp/wildcard-path": (csp_of("img-src https://a.test/img/*"), csp_of("img-src https://a.test/img/")),
+    "csp/folder-without-slash": (asking("connect-src https://api.test/v1", API + "/v1/cart"),
+                                 asking("connect-src https://api.test/v1", API + "/v10/cart")),
+    "csp/scheme-alone": (csp_of("img-src https://"), csp_of("img-src https:")),
+    "csp/star-behind-scheme": (csp_of("img-src data:*"), csp_of("img-src a.test:*")),
+    "csp/one-slash": (csp_of("img-src https:/a.test"), csp_of("img-src https://a.test")),
+    "csp/address": (csp_of("img-src https://192.0.2.1"), csp_of("img-src https://192.0.2.1.test")),
+    "csp/loopback-address": (csp_of("img-src http://127.0.0.1:8080"), csp_of("img-src http://localhost:8080")),
+    "csp/localhost-without-scheme": (asking("connect-src localhost:3000", "http://localhost:3000/x"),
+                                     asking("connect-src localhost:3000", "https://localhost:3000/x")),
+    "csp/data-in-scripts": (csp_of("default-src 'self' data:"), csp_of("default-src 'self' data:; script-src 'self'")),
+    "csp/ancestor-path": (csp_of("frame-ancestors https://a.test/frames/"), csp_of("frame-ancestors https://a.test/")),
+    "csp/source-twice": (csp_of("img-src https://a.test https://a.test"),
+                         csp_of("img-src https://a.test https://a.test/img/")),
+    "csp/no-word": (csp_of("img-src https://a_b.test"), csp_of("img-src https://a-b.test")),
+}
+NOTES = {
+    **{"csp/not-played-" + name: (csp_of("connect-src 'self'; %s %s" % (name, OWN_WORDS.get(name, "'self'"))),
+                                  csp_of("connect-src 'self'")) for name in csp.NOT_PLAYED},
+    "csp/not-played-inline": (csp_of("script-src 'unsafe-inline'"), csp_of("script-src 'nonce-n1'")),
+}
+CORS_ORIGINS = {
+    "cors/origin-twice": (cors(PAGE, [ORIGIN, PAGE]), cors(PAGE)),
+    "cors/origin-quotes": (cors('"%s"' % PAGE), cors(PAGE)),
+    "cors/origin-list": (cors("https://a.test, https://b.test"), cors("https://a.test")),
+    "cors/origin-path": (cors(PAGE + "/"), cors(PAGE + ":8443")),
+    "cors/origin-capitals": (cors("https://Shop.test"), cors(PAGE)),
+    "cors/origin-without-scheme": (cors("shop.test"), cors("app://shop.test")),
+    "cors/origin-default-port": (cors(PAGE + ":443"), cors("http://shop.test:443")),
+    "cors/origin-null": (cors("null"), cors("*")),
+    "cors/origin-pattern": (cors("https://*.shop.test"), cors("*")),
+    "cors/origin-unfilled": (cors("$http_origin"), cors(PAGE)),
+    "cors/origin-own": (cors(API), cors(API, asks=[cases.fetch("/x")])),
+    "cors/no-origin": (cors("all"), cors("*")),
+    "cors/star-with-credentials": (cors("*", [CREDENTIALS, "true"]), cors(PAGE, [CREDENTIALS, "true"])),
+    "cors/vary-missing": (asked_by_two(), asked_by_two(["Vary", "Accept, origin"])),
+}
+CORS_VALUES = {
+    "cors/credentials-not-true": (cors(PAGE, [CREDENTIALS, "True"]), cors(PAGE, [CREDENTIALS, "true"])),
+    "cors/credentials-twice": (cors(PAGE, [CREDENTIALS, "true"], [CREDENTIALS, "true"]),
+                               cors(PAGE, [CREDENTIALS, "true"])),
+    "cors/allow-methods-quotes": (cors("*", [METHODS, '"PUT", "DELETE"']), cors("*", [METHODS, "PUT, DELETE"])),
+    "cors/allow-methods-without-commas": (cors("*", [METHODS, "PUT DELETE"]), cors("*", [METHODS, "PUT,DELETE"])),
+    "cors/allow-methods-no-token": (cors("*", [METHODS, "PUT/1"]), cors("*", [METHODS, "PUT-1"])),
+    "cors/allow-headers-quotes": (cors("*", [HEADERS, "[x-a, x-b]"]), cors("*", [HEADERS, "x-a, x-b"])),
+    "cors/allow-headers-without-commas": (cors("*", [HEADERS, "x-a;x-b"]), cors("*", [HEADERS, "x-a , x-b"])),
+    "cors/allow-headers-no-token": (cors("*", [HEADERS, "x-a:"]), cors("*", [HEADERS, "x-a"])),
+    "cors/expose-headers-quotes": (cors("*", [EXPOSED, '"X-A"']), cors("*", [EXPOSED, "X-A"])),
+    "cors/expose-headers-without-commas": (cors("*", [EXPOSED, "X-A X-B"]), cors("*", [EXPOSED, "X-A, X-B"])),
+    "cors/expose-headers-no-token": (cors("*", [EXPOSED, "X@A"]), cors("*", [EXPOSED, "X_A"])),
+    "cors/method-in-small-letters": (cors("*", [METHODS, "GET, patch"]),
+                                     cors("*", [METHODS, "GET, PATCH, patch, purge"])),
+    "cors/methods-star-with-credentials": (cors(PAGE, [CREDENTIALS, "true"], [METHODS, "*"]),
+                                           cors("*", [METHODS, "*"])),
+    "cors/headers-star-with-credentials": (cors(PAGE, [CREDENTIALS, "true"], [HEADERS, "x-a, *"]),
+                                           cors("*", [HEADERS, "x-a, *"])),
+    "cors/exposed-star-with-credentials": (cors(PAGE, [CREDENTIALS, "true"], [EXPOSED, "*"]),
+                                           cors("*", [EXPOSED, "*"])),
+    "cors/authorization-under-star": (preflighted("*", "Authorization"),
+                                      preflighted("*, authorization", "Authorization")),
+    "cors/set-cookie-exposed": (cors("*", [EXPOSED, "X-A, set-cookie"]), cors("*", [EXPOSED, "X-A, cookie"])),
+    "cors/max-age-no-number": (cors("*", [AGE, "600"], [AGE, "600"]), cors("*", [AGE, "0"])),
+    "cors/max-age-long": (cors("*", [AGE, "604800"]), cors("*", [AGE, "86400"])),
+    "cors/resource-policy-word": (answer(["Cross-Origin-Resource-Policy", "Same-Site"]),
+                                  answer(["Cross-Origin-Resource-Policy", "same-site"])),
+    "cors/header-misspelt": (answer(["Access-Control-Allow-Orgin", "*"]),
+                             answer(["Access-Control-Allow-Private-Network", "true"])),
+    "cors/request-header": (cors("*", ["Access-Control-Request-Method", "PUT"]), cors("*", [METHODS, "PUT"])),
+    "cors/on-the-page": (page([ORIGIN, "*"]), page(["Cache-Control", "no-store"])),
+    "cors/in-a-request": (page(asks=[cases.fetch(headers=[[ORIGIN, "*"]])]),
+                          page(asks=[cases.fetch(headers=[["Accept", "*/*"]])])),
+}
+HSTS_CASES = {
+    "hsts/value-in-quotes": (hsts('"max-age=600; includeSubDomains"'), hsts('max-age="600"; includeSubDomains')),
+    "hsts/comma": (hsts("max-age=600, includeSubDomains"), hsts("max-age=600; includeSubDomains")),
+    "hsts/colon": (hsts("max-age: 600"), hsts("max-age = 600")),
+    "hsts/max-age-missing": (hsts("includeSubDomains"), hsts("includeSubDomains; Max-Age=600")),
+    "hsts/max-age-quotes": (hsts("max-age='600'"), hsts('max-age="600"')),
+    "hsts/max-age-negative": (hsts("max-age=-1"), hsts("max-age=0")),
+    "hsts/semicolon-missing": (hsts("max-age=600 includeSubDomains"), hsts("max-age=600 ; includeSubDomains;")),
+    "hsts/max-age-no-number": (hsts("max-age=1y"), hsts("max-age=0600")),
+    "hsts/directive-twice": (hsts("max-age=600; max-age=600"), hsts("max-age=600; other; another")),
+    "hsts/subdomains-value": (hsts("max-age=600; includeSubDomains=true"), hsts("max-age=600; includesubdomains")),
+    "hsts/unknown-directive": (hsts("max-age=600; includeSubdomain"), hsts("max-age=600; other=1")),
+    "hsts/no-field": (hsts("max-age=600; a b"), hsts('max-age=600; a="b c"')),
+    "hsts/sent-twice": (answer([HSTS, YEAR], [HSTS, YEAR]), hsts(YEAR)),
+    "hsts/over-http": (hsts(YEAR, "http://api.test"), hsts(YEAR)),
+    "hsts/on-an-address": (hsts(YEAR, "https://192.0.2.1"), hsts(YEAR, "https://192.0.2.1.test")),
+    "hsts/preload-without-subdomains": (hsts(YEAR + "; preload"), hsts(YEAR + "; includeSubDomains; preload")),
+    "hsts/preload-short": (hsts("max-age=600; includeSubDomains; preload"),
+                           hsts(YEAR + "; includeSubDomains; preload")),
+    "hsts/zero-with-more": (hsts("max-age=0; includeSubDomains"), hsts("max-age=0")),
+    "hsts/header-misspelt": (answer(["Strict-Transport-Securty", YEAR]), hsts(YEAR)),
+    "hsts/on-the-page": (page([HSTS, YEAR]), hsts(YEAR)),
+}
+REFERRER_CASES = {
+    "referrer/quotes": (page([REFERRER, "'no-referrer'"]), page([REFERRER, "no-referrer"])),
+    "referrer/without-commas": (page([REFERRER, "no-referrer; same-origin"]),
+                                page([REFERRER, "no-referrer, same-origin"])),
+    "referrer/old-word": (page([REFERRER, "never"]), page([REFERRER, "no-referrer"])),
+    "referrer/unknown-word": (page([REFERRER, "no-refferer"]), page([REFERRER, "some-future-word, No-Referrer"])),
+    "referrer/nothing-known": (page([REFERRER, "1"]), page([REFERRER, "origin"])),
+    "referrer/last-decides": (page([REFERRER, "same-origin, origin"]),
+                              page([REFERRER, "origin, strict-origin-when-cross-origin"])),
+    "referrer/header-misspelt": (page(["Referer-Policy", "no-referrer"]), page([REFERRER, "no-referrer"])),
+}
+INTEGRITY_CASES = {
+    "integrity/quotes": (text("sha256-%s 'sha384-%s'" % (SHA256, SHA384)),
+                         text("sha256-%s sha384-%s" % (SHA256, SHA384))),
+    "integrity/comma": (text("sha256-%s, sha384-%s" % (SHA256, SHA384)), text("sha256-%s?a,b" % SHA256)),
+    "integrity/algorithm": (text("sha256-%s md5-kAFQmDzST7DWlj99KOF/cg==" % SHA256), text("sha384-" + SHA384)),
+    "integrity/algorithm-spelling": (text("SHA384-%s sha256-%s" % (SHA384, SHA256)), text("sha256-" + SHA256)),
+    "integrity/dash-missing": (text("sha384%s sha256-%s" % (SHA384, SHA256)), text("sha256-" + SHA256)),
+    "integrity/hex": (text("sha256-" + HEX), text("sha256-" + SHA256)),
+    "integrity/padding": (text("sha256-" + SHA256.rstrip("=")), text("sha384-" + SHA384)),
+    "integrity/length": (text("sha256-AAAA"), text("sha256-" + SHA256.replace("/", "_"))),
+    "integrity/no-base64": (text("sha256-a=b sha384-" + SHA384), text("sha384-" + SHA384)),
+    "integrity/nothing-fits": (text("abc"), text(" ")),
+    "integrity/opaque": (element("script", API + "/a.js"), element("script", API + "/a.js", crossorigin="anonymous")),
+    "integrity/no-attribute": (element("image", PAGE + "/i.png"), element("style", PAGE + "/a.css")),
+}
+CASES = {**CSP_HEADERS, **CSP_DIRECTIVES, **CSP_WORDS, **CSP_URLS, **NOTES, **CORS_ORIGINS, **CORS_VALUES, **HSTS_CASES,
+         **REFERRER_CASES, **INTEGRITY_CASES}
+
+# Policies that are right: together they have each directive and each keyword of the grammar.
+RIGHT = [
+    "default-src 'none'; script-src 'self' 'nonce-n1' 'report-sample'; style-src 'self' 'unsafe-inline'; "
+    "img-src 'self' data: blob: https://*.img.test; font-src https://font.test/a/; "
+    "connect-src 'self' https://api.test:8443 wss://live.test; media-src https:; manifest-src 'self'; "
+    "object-src 'none'; frame-src https://frame.test; child-src 'self'; worker-src 'self' blob:; base-uri 'none'; "
+    "form-action 'self'; frame-ancestors 'self' https://top.test; upgrade-insecure-requests; "
+    "report-uri /csp https://log.test/csp?a=1; report-to csp",
+    "script-src-elem 'strict-dynamic' 'sha256-%s' 'unsafe-eval' 'wasm-unsafe-eval' 'trusted-types-eval' "
+    "'inline-speculation-rules'; script-src-attr 'unsafe-hashes' 'sha384-%s'; style-src-elem 'nonce-n1'; "
+    "style-src-attr 'unsafe-inline'; fenced-frame-src https:" % (SHA256, SHA384),
+    "script-src 'self' 'report-sha256' 'report-sha384' 'report-sha512'",
+    "sandbox; require-trusted-types-for 'script'; trusted-types one 'allow-duplicates'; webrtc 'allow'",
+    "sandbox %s; trusted-types 'none'; webrtc 'block'" % " ".join(grammar.SANDBOX),
+    "script-src 'strict-dynamic' 'nonce-n1' 'unsafe-inline' https: http:",
+    "img-src *", "img-src https://* http://localhost:* *.a.test:443 A.test. a.test/%41/b;", "IMG-SRC 'SELF'",
+    "script-src 'sha512-%s=='" % ("A" * 86), "frame-ancestors 'none'", "trusted-types *", "trusted-types",
+    "default-src 'self';;", "default-src https: data: 'unsafe-inline' 'unsafe-eval'",
+    "img-src 'self' a.test a.test/b/ wss://a.test:* mediastream:",
+]
+
+# Headers as servers send them, all right, of an answer and of a document.
+RIGHT_HEADERS = [
+    [ORIGIN, "*"], [METHODS, "GET, POST, PUT, PATCH, DELETE, OPTIONS"], [EXPOSED, "ETag, X-Total"], [AGE, "7200"],
+    [HEADERS, "Origin, X-Requested-With, Content-Type, Accept, Authorization"],
+    [HSTS, "max-age=63072000; includeSubDomains; preload"], [REFERRER, "strict-origin-when-cross-origin"],
+    [POLICY, "default-src 'self'; img-src *; upgrade-insecure-requests"],
+    [REPORT_ONLY, "default-src https:; report-uri /csp; report-to csp"], ENDPOINTS, ["Report-To", "{}"],
+    ["Cross-Origin-Resource-Policy", "cross-origin"], ["Cross-Origin-Opener-Policy", "same-origin"],
+    ["Cross-Origin-Embedder-Policy", "require-corp"], ["Vary", "Accept-Encoding, Origin"],
+    ["Cache-Control", "no-store"],
+    ["X-Content-Type-Options", "nosniff"], ["X-Frame-Options", "DENY"], ["X-XSS-Protection", "0"],
+    ["X-Permitted-Cross-Domain-Policies", "none"], ["Permissions-Policy", "camera=(), geolocation=()"],
+    ["Document-Policy", "js-profiling"], ["Integrity-Policy", "blocked-destinations=(script)"],
+    ["Origin-Agent-Cluster", "?1"], ["Timing-Allow-Origin", "*"], ["Access-Control-Allow-Private-Network", "true"],
+    ["Content-Type", "text/html"], ["Content-Language", "en"], ["Content-Location", "/x"], ["Allow", "GET, POST"],
+    ["Set-Cookie", "a=1; Secure; SameSite=None"], ["Server", "nginx"], ["NEL", "{}"],
+]
+
+# The lints of stored scenarios, which show what is wrong on purpose, each with its reason.
+SHOWN, QUESTION = "it is shown beside what is right", "it is the question"
+ON_PURPOSE = {
+    "examples/note.json": {"hsts/sent-twice": "that the first one counts is shown"},
+    "examples/report-only.json": {"csp/report-only-unheard": "the play prints the violations"},
+    "gallery/authorization-under-star": {"cors/authorization-under-star": QUESTION},
+    "gallery/csp-report-only": {"csp/report-only-ignores": "that it changes nothing is shown",
+                                "csp/report-only-unheard": "the play prints the violations"},
+    "gallery/headers-seen": {"cors/expose-headers-without-commas": "that one bad item hides all is shown",
+                             "cors/exposed-star-with-credentials": SHOWN},
+    "gallery/hsts-first-visit": {"hsts/over-http": "that it is ignored is shown"},
+    "gallery/integrity-204": {"integrity/opaque": SHOWN},
+    "gallery/max-age-edges": {"cors/max-age-no-number": "`-1`, and two of them, are edges"},
+    "gallery/star-learnt": {"cors/headers-star-with-credentials": QUESTION,
+                            "cors/methods-star-with-credentials": QUESTION},
+    "gallery/star-with-credentials": {"cors/credentials-not-true": SHOWN, "cors/star-with-credentials": QUESTION},
+    "gallery/two-allow-origins": {"cors/origin-list": SHOWN, "cors/origin-path": SHOWN, "cors/origin-twice": QUESTION},
+    "gallery/vary-origin": {"cors/vary-missing": QUESTION},
+}

@@ -1,0 +1,200 @@
+"""Lints: what the headers of a scenario or of a server's answers, or an integrity text, say and surely mean otherwise.
+Each is an entry of a table; docs/rules/lints.md lists them, as `bin/why --lints` does."""
+import functools
+import importlib
+import re
+from itertools import islice
+
+from commands import answers
+from commands.lints.entry import ANSWER, COMMAND, DOCUMENT, Finding
+from commands.lints.reading import TOPICS, Ask, Budget, Headers, Options
+from commands.play_text import is_preflight
+
+MOST_FOUND = 200
+
+
+@functools.lru_cache(None)
+def table_of(topic):
+    """A table is read where something comes that it looks at: most scenarios need one or two."""
+    return importlib.import_module("commands.lints." + topic).TABLE
+
+
+def table():
+    return [lint for topic in TOPICS for lint in table_of(topic)]
+
+
+@functools.lru_cache(1024)
+def lints_of(topics, kinds, where):
+    """The lints that look at a thing, in a place."""
+    tables = [lint for topic in topics for lint in table_of(topic)]
+    return [lint for lint in tables if lint.looks_at.lower() in kinds and where in lint.among]
+
+
+def found_in(things):
+    """All findings in things; the last ones of a thing where it has no other."""
+    for it in things:
+        lints = lints_of(it.topics, it.kinds, it.where)
+        own = list(told(it, [lint for lint in lints if not lint.is_last]))
+        if all(one.lint.is_note for one in own):
+            own += told(it, [lint for lint in lints if lint.is_last])
+        yield from own
+
+
+def told(it, lints):
+    for lint in lints:
+        sentence = lint.sentence(it)
+        if sentence is not None:
+            yield Finding(lint, it, sentence)
+
+
+def lines():
+    """Each lint in a line, as `bin/why --lints` lists it."""
+    return [lint.line() for lint in table()]
+
+
+# ---- scenarios
+
+class Place:
+    """A thing of a scenario with the node that it stands in: the list of headers, the raw answer, or the command."""
+
+    def __init__(self, node, things):
+        self.node = node
+        self.things = things
+
+    def of(self, finding):
+        """The place of the text."""
+        if self.node.kind == "string":
+            return self.node.start
+        if self.node.kind == "object":
+            return (self.node.member("integrity") or self.node).start
+        value = self.node.items[finding.at].items[0 if finding.is_name else 1]
+        part = finding.text and re.search(r'(?<![^\s;,"])%s(?![^\s;,"])' % re.escape(finding.text), value.text)
+        return value.start + (part.start() if part else 0)
+
+
+def in_scenario(scenario):
+    """Findings, each with its place in the text; of what a play does not look at the first alone."""
+    return list(islice(without_repeats(places(scenario, Budget())), MOST_FOUND))
+
+
+def without_repeats(found):
+    notes = set()
+    for place in found:
+        for finding in found_in(place.things):
+            if finding.sentence not in notes:
+                yield place.of(finding), finding
+            if finding.lint.is_note:
+                notes.add(finding.sentence)
+
+
+def of_scenario(scenario):
+    """Pairs of a place of the text and a sentence."""
+    return [(place, finding.sentence) for place, finding in in_scenario(scenario)]
+
+
+def places(scenario, budget):
+    nodes = scenario.root.member("documents").items
+    pages = list(zip(nodes, scenario.documents()))
+    asks = [Asks(node, document) for node, document in pages]
+    for (node, document), own in zip(pages, asks):
+        if node.member("headers"):
+            headers = Headers(DOCUMENT, document["headers"], document["url"], own.all)
+            yield Place(node.member("headers"), headers.things(budget))
+        yield from own.places(budget)
+    yield from answer_places(scenario, [ask for own in asks for ask in own.all], budget)
+
+
+class Asks:
+    """What a document's scripts ask for, as far as their text says it: without what templates put in."""
+
+    def __init__(self, node, document):
+        self.page = document["url"]
+        self.nodes = list(commands(node.member("script")))
+        self.all = [self.ask(kind, own.plain()) for kind, own in self.nodes if "${" not in own.member("url").value]
+
+    def ask(self, kind, given):
+        return Ask(self.page, given["kind"] if kind == "load" else "fetch", given["url"],
+                   [name for name, _ in given.get("headers", [])], given.get("method"))
+
+    def places(self, budget):
+        for kind, node in self.nodes:
+            given = node.plain()
+            if given.get("integrity"):
+                yield Place(node, [Options(self.page, given, kind == "load")])
+            if given.get("headers"):
+                headers = Headers(COMMAND, given["headers"], given["url"])
+                yield Place(node.member("headers"), headers.things(budget))
+
+
+def commands(script):
+    """The fetches and loads of a script, in the lists of others too, as pairs of a kind and a node."""
+    for command in script.items:
+        for key, value in command.members:
+            if key.value in ("fetch", "load"):
+                yield key.value, value
+            elif key.value in ("do", "then", "else"):
+                yield from commands(value)
+
+
+class Rules:
+    """The rules of a server, with the requests that each of them answers: those themselves, and their preflights."""
+
+    def __init__(self, rules, asks):
+        self.first = {}
+        for index, rule in enumerate(rules):
+            self.first.setdefault((rule.get("method"), rule.get("path")), index)
+        self.asks, self.preflights = {}, {}
+        for ask in asks:
+            self.asks.setdefault(self.index_of(ask.method, ask.target), []).append(ask)
+            self.preflights.setdefault(self.index_of("OPTIONS", ask.target), []).append(ask)
+
+    def index_of(self, method, target):
+        """The first rule that takes a request, or None."""
+        keys = [(one, path) for one in (method, None) for path in (target, None)]
+        return min((self.first[key] for key in keys if key in self.first), default=None)
+
+
+def answer_places(scenario, asks, budget):
+    by_origin = {}
+    for ask in asks:
+        by_origin.setdefault(ask.origin, []).append(ask)
+    servers = scenario.root.member("servers")
+    for node, server in zip(servers.items if servers else [], scenario.servers()):
+        rules = Rules(server["rules"], by_origin.pop(server["origin"], []))
+        for index, (item, rule) in enumerate(zip(node.member("rules").items, server["rules"])):
+            pairs = rule.get("headers") or raw_headers(rule)
+            if pairs:
+                headers = Headers(ANSWER, pairs, server["origin"] + rule.get("path", "/"), rules.asks.get(index, []),
+                                  rules.preflights.get(index, []))
+                yield Place(item.member("headers") or item.member("raw"), headers.things(budget))
+
+
+def raw_headers(rule):
+    head = answers.parsed(answers.data_of(rule))[1] if "raw" in rule else None
+    return head.headers if head else []
+
+
+# ---- what real servers answered
+
+def of_answers(told_play):
+    """A URL, a header's name and a sentence for each finding in what real servers answered."""
+    found, budget = {}, Budget()
+    for case in told_play.cases:
+        for request, answer in case.exchanges:
+            if answer is not None and answer.head is not None and len(found) < MOST_FOUND:
+                for finding in found_in(headers_of(case, request, answer.head).things(budget)):
+                    found[request.origin + request.target, finding.header, finding.sentence] = None
+    return list(found)
+
+
+def headers_of(case, request, head):
+    ask = Ask(case.document["url"], case.kind, case.command.url, [name for name, _ in case.command.headers])
+    asks = ([], [ask]) if is_preflight(request) else ([ask], [])
+    return Headers(ANSWER, head.headers, request.origin + request.target, *asks, is_real=True)
+
+
+def notes(told_play):
+    """What bin/ask says, of its words and of what was answered."""
+    sentences = [sentence for case in told_play.cases[:1] for _, sentence in of_scenario(case.scenario)]
+    sentences += ["%s: %s: %s" % one for one in of_answers(told_play)]
+    return list(dict.fromkeys(sentences))

@@ -1,0 +1,362 @@
+"""Lints of the words of a policy's directives."""
+import re
+from urllib.parse import unquote, urlsplit
+
+from commands.lints import grammar
+from commands.lints.entry import DOCUMENT, Lint, nearest, write
+from commands.lints.reading import is_address, is_loopback
+from commands.scenario import origin_of
+
+QUOTES = "\"`"
+
+
+def is_proof_text(text):
+    return re.fullmatch(r"(?:nonce|sha256|sha384|sha512)-[A-Za-z0-9+/_=-]+", text, re.I) is not None
+
+
+# ---- words of any directive
+
+def missing_semicolon(word):
+    return word.is_directive
+
+
+def unknown_sandbox(word):
+    return word.directive.name == "sandbox" and not_one_of(word, grammar.SANDBOX)
+
+
+def not_one_of(word, known):
+    return word.lower not in known and not word.is_directive and write(nearest(word.text.strip("'"), known))
+
+
+def unknown_sink(word):
+    return word.directive.name == "require-trusted-types-for" and word.text != "'script'" and not word.is_directive
+
+
+def unknown_trusted(word):
+    """A keyword of trusted-types that is none, or one without quotes."""
+    if word.directive.name != "trusted-types":
+        return None
+    if word.inner is not None:
+        return word.inner not in grammar.TRUSTED and write(quoted(nearest(word.inner, grammar.TRUSTED)))
+    return word.text in grammar.TRUSTED and write(quoted(word.text))
+
+
+def unknown_webrtc(word):
+    return word.directive.name == "webrtc" and word.text not in ("'allow'", "'block'") and not word.is_directive
+
+
+def quoted(word):
+    return word and "'%s'" % word
+
+
+def insecure_report(word):
+    if word.directive.name != "report-uri" or not word.lower.startswith("http://"):
+        return None
+    return word.policy.headers.scheme == "https" and not is_loopback(word.place) and "https" + word.text[4:]
+
+
+WORDS = [
+    Lint("csp/semicolon-missing", "a word", missing_semicolon,
+         "`{it.text}` stands as a word of `{it.directive.name}`, and is the name of a directive",
+         "put a semicolon before `{it.text}`"),
+    Lint("csp/sandbox-word", "a word", unknown_sandbox, "`{it.text}` is no word of `sandbox`", "{meant}"),
+    Lint("csp/trusted-sink", "a word", unknown_sink, "`{it.text}` is no word of `require-trusted-types-for`",
+         "write `'script'`"),
+    Lint("csp/trusted-word", "a word", unknown_trusted, "`{it.text}` is no keyword of `trusted-types`", "{meant}"),
+    Lint("csp/webrtc-word", "a word", unknown_webrtc, "`{it.text}` is no word of `webrtc`",
+         "write `'allow'` or `'block'`"),
+    Lint("csp/report-over-http", "a word", insecure_report,
+         "a page over https sends no report to `{it.text}`, which is mixed content", "write `{meant}`"),
+]
+
+
+# ---- quotes
+
+def bare_keyword(word):
+    return word.lower in grammar.KEYWORDS and quoted(word.lower)
+
+
+def bare_nonce(word):
+    return word.lower.startswith("nonce-") and is_proof_text(word.text) and quoted(word.text)
+
+
+def bare_hash(word):
+    return word.lower.startswith("sha") and is_proof_text(word.text) and quoted(word.text)
+
+
+def other_quotes(word):
+    inner = word.text.strip(QUOTES + "'")
+    if word.policy.is_pasted or not inner or not (word.text[0] in QUOTES or word.text[-1] in QUOTES):
+        return None
+    return quoted(inner) if inner.lower() in grammar.KEYWORDS or is_proof_text(inner) else inner
+
+
+def half_quoted(word):
+    inner = word.text.strip("'")
+    is_known = inner.lower() in grammar.KEYWORDS or is_proof_text(inner)
+    if word.text.count("'") != 1 or not (word.text[0] == "'" or (word.text[-1] == "'" and is_known)):
+        return None
+    meant = quoted(inner) if is_known else inner if "." in inner else None
+    return write(meant, "write both quotes, and no blank between them")
+
+
+def quoted_with_more(word):
+    found = re.match(r"('[^']+')(.+)", word.text)
+    return found and found.group(1)
+
+
+def unknown_keyword(word):
+    inner = word.inner
+    if inner is None or not re.fullmatch(r"[\w-]*", inner) or inner == "localhost":
+        return None
+    if inner.lower() in (*grammar.KEYWORDS, "unsafe-allow-redirects") or is_like_proof(inner):
+        return None
+    return write(quoted(nearest(inner, grammar.KEYWORDS)))
+
+
+def is_like_proof(inner):
+    """Whether a nonce or a hash is meant."""
+    return any(form.fullmatch(inner) for form in (grammar.NONCE, grammar.HASH, grammar.HASH_LIKE))
+
+
+def quoted_host(word):
+    inner = word.inner
+    if not inner or is_like_proof(inner):
+        return None
+    return (inner in ("*", "localhost") or re.search(r"[.:]", inner) is not None) and inner
+
+
+def redirects_keyword(word):
+    return word.lower == "'unsafe-allow-redirects'"
+
+
+def bare_scheme(word):
+    return word.lower in ("http", "https", "ws", "wss", "data", "blob") and word.lower + ":"
+
+
+QUOTING = [
+    Lint("csp/keyword-unquoted", "a source", bare_keyword, "`{it.text}` without quotes is a host's name",
+         "write `{meant}`"),
+    Lint("csp/nonce-unquoted", "a source", bare_nonce, "`{it.text}` without quotes is a host's name, and no nonce",
+         "write `{meant}`"),
+    Lint("csp/hash-unquoted", "a source", bare_hash, "`{it.text}` without quotes is no hash", "write `{meant}`"),
+    Lint("csp/other-quotes", "a source", other_quotes, "`{it.text}` is in quotes that mean nothing in a policy",
+         "write `{meant}`"),
+    Lint("csp/quote-missing", "a source", half_quoted, "`{it.text}` has a quote on one side alone", "{meant}"),
+    Lint("csp/quoted-with-more", "a source", quoted_with_more, "`{it.text}` goes on behind its quotes, and is no word",
+         "put a blank behind `{meant}`; or write it alone"),
+    Lint("csp/unknown-keyword", "a source", unknown_keyword, "`{it.text}` is no keyword, and matches nothing",
+         "{meant}"),
+    Lint("csp/host-quoted", "a source", quoted_host, "`{it.text}` matches nothing: hosts and schemes have no quotes",
+         "write `{meant}`"),
+    Lint("csp/unsafe-allow-redirects", "a source", redirects_keyword,
+         "`{it.text}` goes with `navigate-to`, which is not in the standard any more", "take it out"),
+    Lint("csp/scheme-without-colon", "a source", bare_scheme, "`{it.text}` without a colon is a host's name",
+         "write `{meant}`"),
+]
+
+
+# ---- nonces and hashes
+
+def bad_nonce(word):
+    found = grammar.NONCE.fullmatch(word.inner or "")
+    return found is not None and grammar.BASE64.fullmatch(found.group(1)) is None
+
+
+def hash_in_hex(word):
+    found = grammar.HASH.fullmatch(word.inner or "")
+    return found is not None and grammar.is_hex(*found.groups())
+
+
+def bad_hash(word):
+    found = grammar.HASH.fullmatch(word.inner or "")
+    if found is None or grammar.is_digest(*found.groups()) or grammar.is_hex(*found.groups()):
+        return None
+    return found.group(1).lower()
+
+
+def other_algorithm(word):
+    found = grammar.HASH_LIKE.fullmatch(word.inner or "")
+    if found is None or (found.group(1).lower() in grammar.DIGESTS and found.group(2) == "-"):
+        return None
+    meant = re.sub("[-_/]", "", found.group(1).lower())
+    return meant if meant in grammar.DIGESTS else "sha256"
+
+
+def proof_elsewhere(word):
+    return word.is_proof and word.directive.name not in grammar.OF_CODE
+
+
+def code_elsewhere(word):
+    return word.inner is not None and word.directive.name not in grammar.OF_CODE and word.inner.lower() in grammar.CODE
+
+
+def dynamic_elsewhere(word):
+    places = (*grammar.SCRIPTS, "script-src-attr", "worker-src")
+    return word.lower == "'strict-dynamic'" and word.directive.name not in places
+
+
+PROOFS = [
+    Lint("csp/nonce-characters", "a source", bad_nonce,
+         "`{it.text}` matches nothing: a nonce is letters, digits, `+` and `/`, as base64 has them",
+         "write such a value, new in each answer"),
+    Lint("csp/hash-hex", "a source", hash_in_hex, "`{it.text}` is in hexadecimal digits, and matches nothing",
+         "write the digest in base64"),
+    Lint("csp/hash-length", "a source", bad_hash, "`{it.text}` is no digest of {meant} in base64, and matches nothing",
+         "make it anew, and write all of it, its `=` too"),
+    Lint("csp/hash-algorithm", "a source", other_algorithm,
+         "`{it.text}` is of no algorithm that a policy knows, and matches nothing",
+         "write `'{meant}-..'`, with a digest of that"),
+    Lint("csp/nonce-elsewhere", "a source", proof_elsewhere,
+         "a nonce or a hash counts for scripts and styles alone, and means nothing in `{it.directive.name}`",
+         "take `{it.text}` out"),
+    Lint("csp/unsafe-elsewhere", "a source", code_elsewhere,
+         "`{it.text}` is of scripts and styles, and means nothing in `{it.directive.name}`", "take it out"),
+    Lint("csp/strict-dynamic-elsewhere", "a source", dynamic_elsewhere,
+         "`'strict-dynamic'` is of scripts, and means nothing in `{it.directive.name}`", "take it out"),
+]
+
+
+# ---- hosts, schemes and paths
+
+def is_url(word):
+    return not word.text.startswith("'") and not word.is_directive
+
+
+def insecure_source(word):
+    """What a page over https never loads, as it is written and as it should be."""
+    found = re.match(r"(http|ws):", word.lower)
+    if not found or word.policy.headers.scheme != "https" or word.directive.name not in grammar.FETCH:
+        return None
+    if "strict-dynamic" in word.directive.inner or is_loopback(word.place):
+        return None
+    return re.sub(r":80(?=/|$)", "", found.group(1) + "s" + word.text[len(found.group(1)):])
+
+
+def with_query(word):
+    found = re.match(r"([^?#]+)[?#]", word.text)
+    return is_url(word) and found is not None and grammar.HOST.fullmatch(found.group(1)) is not None and found.group(1)
+
+
+def wildcard_inside(word):
+    return is_url(word) and "*" in re.sub(r"^\*(\.|$)", "", word.place)
+
+
+def wildcard_scheme(word):
+    found = re.match(r"\*:/*(.*)", word.text)
+    return bool(found) and not re.fullmatch(r"\*:(\d+|\*)(/.*)?", word.text) and "https://" + (found.group(1) or "*")
+
+
+def wildcard_path(word):
+    path = word.host and word.host.group("path")
+    if not path or "*" not in path:
+        return None
+    return word.text[:word.text.index("*", word.host.start("path"))].rpartition("/")[0] + "/"
+
+
+def folder(word):
+    """A path whose slash is missing: the page loads what stands below it."""
+    path = word.host and word.host.group("path")
+    if not path or path.endswith("/"):
+        return None
+    return next((url for url in word.asks() if unquote(urlsplit(url).path).startswith(unquote(path) + "/")), None)
+
+
+def scheme_alone(word):
+    found = re.fullmatch(r"([a-z][a-z0-9+.-]*:)/+", word.text, re.I)
+    return found and found.group(1)
+
+
+def star_behind_scheme(word):
+    found = re.fullmatch(r"((?:data|blob|filesystem):)\*", word.text, re.I)
+    return found and found.group(1)
+
+
+def one_slash(word):
+    found = re.fullmatch(r"(https?|wss?):/?([^/].*)", word.text, re.I)
+    return found and "%s://%s" % found.groups()
+
+
+def other_address(word):
+    return is_url(word) and is_address(word.place) and word.place != "127.0.0.1"
+
+
+def loopback_address(word):
+    return is_url(word) and word.place == "127.0.0.1"
+
+
+def local_without_scheme(word):
+    """`localhost`, where a page over https asks for its http URL."""
+    found = re.fullmatch(r"localhost(:\d+)?(/.*)?", word.lower)
+    if not found or word.policy.headers.scheme != "https":
+        return None
+    origin = "http://localhost" + (found.group(1) or "")
+    return any(origin_of(url) == origin for url in word.asks()) and "http://" + word.text
+
+
+def data_scripts(word):
+    """Where scripts that stand in the page are not let through anyhow."""
+    directive = word.directive
+    is_open = "unsafe-inline" in directive.inner and not directive.has_proof
+    if word.lower != "data:" or "strict-dynamic" in directive.inner or is_open:
+        return None
+    return directive.name in grammar.SCRIPTS and word.policy.decides("script-src-elem") == directive.name
+
+
+def ancestor_path(word):
+    path = word.host and word.host.group("path")
+    is_deep = word.directive.name == "frame-ancestors" and path not in (None, "", "/")
+    return is_deep and word.text[:word.host.start("path")]
+
+
+def is_again(word):
+    return word.is_again
+
+
+def no_word(word):
+    """What the grammar has no word for."""
+    if word.is_directive or word.inner is not None or word.policy.is_pasted or grammar.SCHEME.fullmatch(word.text):
+        return None
+    path = word.host and word.host.group("path")
+    return word.host is None or bool(path and not grammar.PATH.fullmatch(path))
+
+
+URLS = [
+    Lint("csp/http-on-https", "a source", insecure_source,
+         "a page over https loads nothing from `{it.text}`, which is mixed content", "write `{meant}`"),
+    Lint("csp/query-or-fragment", "a source", with_query,
+         "`{it.text}` is no word of the grammar: a source has no query and no fragment", "write `{meant}`"),
+    Lint("csp/wildcard-inside", "a source", wildcard_inside,
+         "`{it.text}` matches nothing: `*` stands for all labels before a host's first dot, and nowhere else",
+         "write `*.` and the domain, or each host"),
+    Lint("csp/wildcard-scheme", "a source", wildcard_scheme, "`{it.text}` matches nothing: no `*` stands for a scheme",
+         "write `{meant}`, or the host without a scheme"),
+    Lint("csp/wildcard-path", "a source", wildcard_path, "`*` in the path of `{it.text}` stands for itself",
+         "write `{meant}`, which has all that is below it"),
+    Lint("csp/folder-without-slash", "a source", folder,
+         "`{it.text}` is this path alone, and the page asks for {meant}", "write `{it.text}/`"),
+    Lint("csp/scheme-alone", "a source", scheme_alone, "`{it.text}` has no host, and matches nothing",
+         "write `{meant}`"),
+    Lint("csp/star-behind-scheme", "a source", star_behind_scheme, "`{it.text}` is a host with any port",
+         "write `{meant}`"),
+    Lint("csp/one-slash", "a source", one_slash, "`{it.text}` is no word: two slashes stand behind the scheme",
+         "write `{meant}`"),
+    Lint("csp/address", "a source", other_address,
+         "by CSP 3 no IP address matches but `127.0.0.1`, and this engine matches none",
+         "write a domain for {it.place}"),
+    Lint("csp/loopback-address", "a source", loopback_address,
+         "browsers match `127.0.0.1`, as CSP 3 has it, and this engine matches no IP address",
+         "write `localhost`, and ask for that", (DOCUMENT,), is_note=True),
+    Lint("csp/localhost-without-scheme", "a source", local_without_scheme,
+         "`{it.text}` has the page's scheme, https, and the page asks for it over http", "write `{meant}`"),
+    Lint("csp/data-in-scripts", "a source", data_scripts,
+         "`data:` lets whoever can write into the page run any script by its URL",
+         "take it out; of `default-src` by a `script-src` without it"),
+    Lint("csp/ancestor-path", "a source", ancestor_path,
+         "of an ancestor the origin alone is looked at, so `{it.text}` with its path matches none", "write `{meant}`"),
+    Lint("csp/source-twice", "a source", is_again, "`{it.text}` stands twice in `{it.directive.name}`", "take one out"),
+    Lint("csp/no-word", "a source", no_word, "by the grammar of CSP 3 `{it.text}` is no word, and matches nothing",
+         "write a host, such as `https://cdn.example`, a scheme or a keyword", is_last=True),
+]
+
+TABLE = WORDS + QUOTING + PROOFS + URLS

@@ -1,0 +1,197 @@
+"""What lints look at: headers with what is known beside them, and the options of a fetch or a load; policies.py has the
+policies among the headers. Each has `at` and `header`, which say where it stands, `kinds`, the words by which a table
+of lints asks for it, and `topics`, the names of the tables that may have some."""
+import functools
+import re
+from urllib.parse import urlsplit
+
+from commands.lints.entry import COMMAND
+from commands.scenario import joined, origin_of
+
+POLICY = "content-security-policy"
+REPORT_ONLY = "content-security-policy-report-only"
+MOST_ASKS = 100
+MOST_TEXT = 1048576
+# The tables of lints, and what the name of a header has in it that one of them may look at.
+TOPICS = {"csp": "^.?c(?!ross).*(?:sec|pol)|^x-(?:content-s|webkit)", "csp_words": None,
+          "cors": "access|allow|^cross-origin-r", "hsts": "^.?strict|^hsts$|transport-sec", "referrer": "^ref",
+          "integrity": None}
+
+
+class Ask:
+    """A request that a page makes: what kind it is, its URL, the names of its script's headers, and its method."""
+
+    def __init__(self, page, kind, url, names=(), method=None):
+        self.page = page
+        self.kind = kind
+        self.url = joined(url, page)
+        self.names = [name.lower() for name in names]
+        self.page_origin = origin_of(page)
+        self.origin = origin_of(self.url)
+        self.target = target_of(self.url)
+        self.method = normal(method or "GET")
+
+    @property
+    def is_foreign(self):
+        return self.origin != self.page_origin
+
+
+def target_of(url):
+    """The request target of a URL."""
+    try:
+        parts = urlsplit(url)
+    except ValueError:
+        return ""
+    return (parts.path or "/") + ("?" + parts.query if parts.query else "")
+
+
+def normal(method):
+    """A method as fetch has it."""
+    return method.upper() if method.upper() in ("DELETE", "GET", "HEAD", "OPTIONS", "POST", "PUT") else method
+
+
+class Budget:
+    """How much is looked at: the first headers of a text, of so many characters together."""
+
+    def __init__(self):
+        self.left = MOST_TEXT
+
+    def takes(self, name, value):
+        self.left -= 32 + len(value) * (8 if name.lower() in (POLICY, REPORT_ONLY) else 1)
+        return self.left >= 0
+
+
+class Headers:
+    """The headers of a document, of an answer or of a fetch: `url` is that of the document, or what was asked for.
+    `asks` are the requests of the document, or those that get the answer; `preflights` those whose preflights do."""
+
+    def __init__(self, where, pairs, url, asks=(), preflights=(), is_real=False):
+        self.where = where
+        self.pairs = pairs
+        self.url = url
+        self.asks = list(asks)[:MOST_ASKS]
+        self.preflights = list(preflights)[:MOST_ASKS]
+        self.is_real = is_real
+        self.by_name = {}
+        for name, value in pairs:
+            self.by_name.setdefault(name.lower(), []).append(value)
+
+    def values(self, name):
+        return self.by_name.get(name.lower(), [])
+
+    def get(self, name):
+        """All values of a name, joined; None where there is none."""
+        return ", ".join(self.values(name)) if name.lower() in self.by_name else None
+
+    def listed(self, name):
+        return [item.strip(" \t").lower() for item in (self.get(name) or "").split(",")]
+
+    @property
+    def scheme(self):
+        return self.url.partition(":")[0].lower()
+
+    @property
+    def host(self):
+        host = hostname(self.url)
+        return "[%s]" % host if ":" in host else host
+
+    @property
+    def origin(self):
+        return origin_of(self.url)
+
+    @property
+    def has_credentials(self):
+        return self.get("Access-Control-Allow-Credentials") == "true"
+
+    def things(self, budget):
+        """All that lints look at here."""
+        for at, (name, value) in enumerate(self.pairs):
+            if not budget.takes(name, value):
+                return
+            field = Field(self, at, name, value)
+            yield field
+            for policy in field.policies:
+                yield policy
+                yield from policy.things()
+
+
+@functools.lru_cache(1024)
+def topics_of(name):
+    """The tables that look at a header of this name."""
+    return tuple(topic for topic, form in TOPICS.items() if form and re.search(form, name))
+
+
+def hostname(url):
+    try:
+        return urlsplit(url).hostname or ""
+    except ValueError:
+        return ""
+
+
+def is_address(host):
+    """Whether a host is an IP address, as URLs have it."""
+    return re.fullmatch(r"\d+(?:\.\d+){3}", host) is not None or host.startswith("[")
+
+
+def is_loopback(host):
+    """Whether a host is this machine's own, which is trusted over http."""
+    is_local = host == "localhost" or host.endswith(".localhost")
+    return is_local or host == "[::1]" or re.fullmatch(r"127(?:\.\d+){3}", host) is not None
+
+
+class Field:
+    """One header."""
+
+    def __init__(self, headers, at, name, value):
+        self.headers = headers
+        self.where = headers.where
+        self.at = at
+        self.header = name
+        self.name = name.lower()
+        self.value = value.strip(" \t")
+        self.topics = topics_of(self.name)
+        self.is_policy = self.name in (POLICY, REPORT_ONLY)
+        self.kinds = ("a header's name", self.name, "a policy's header")[:3 if self.is_policy else 2]
+        self.policies = self.read_policies() if self.is_policy and headers.where != COMMAND else []
+
+    @property
+    def is_last(self):
+        """Whether no other header of this name comes behind it."""
+        return not any(name.lower() == self.name for name, _ in self.headers.pairs[self.at + 1:])
+
+    @property
+    def count(self):
+        return len(self.headers.values(self.name))
+
+    @property
+    def items(self):
+        return [item.strip(" \t") for item in self.value.split(",") if item.strip(" \t")]
+
+    def read_policies(self):
+        """Those that have a directive; the empty one where none has."""
+        from commands.lints.policies import Policy  # where there is one
+        parts = [part for part in self.value.split(",") if part.strip(" \t;")] or [""]
+        return [Policy(self, number, part) for number, part in enumerate(parts)]
+
+
+class Options:
+    """The options of a fetch or a load."""
+
+    kinds, topics = ("an integrity text",), ("integrity",)
+    where = COMMAND
+    at = header = "integrity"
+
+    def __init__(self, page, options, is_load):
+        self.options = options
+        self.is_load = is_load
+        self.value = options.get("integrity", "")
+        self.tokens = self.value.split()
+        self.kind = options.get("kind", "fetch") if is_load else "fetch"
+        self.ask = Ask(page, self.kind, options["url"])
+
+    @property
+    def is_opaque(self):
+        """Whether its answer is of another origin, and in mode no-cors."""
+        if self.is_load:
+            return self.ask.is_foreign and "crossorigin" not in self.options and self.kind not in ("font", "manifest")
+        return self.ask.is_foreign and self.options.get("mode") == "no-cors"

@@ -1,0 +1,133 @@
+"""What bin/expect does with `allowed`, `blocked` and `reported`: asks the policies of a test's documents for URLs. It plays
+a scenario of its own, in which each document loads what it is asked for, from servers that let every page read."""
+import json
+import re
+
+from commands import asking
+from commands.refusals import nearest
+from commands.scenario import joined, origin_of
+
+KEYS = ("allowed", "blocked", "reported")
+KINDS = ("fetch", "image", "audio", "video", "style", "script", "font", "manifest")
+ITEM = re.compile(r"(?:document ([0-9]{1,3}) )?(\S+) (\S.*)", re.S)
+EXAMPLE = '"script https://cdn.example/app.js"'
+# An origin whose server a scenario takes as it is written here: of a host that is no address and needs no coding.
+PLAIN = re.compile(r"https?://(?:(?!xn--)[a-z0-9_][a-z0-9_-]*\.)*(?!xn--)[a-z][a-z0-9-]*(?::[1-9][0-9]{0,4})?")
+ANSWER = {"status": 200, "headers": [["Access-Control-Allow-Origin", "*"]]}
+POLICY_ERRORS = (4, 19)
+MOST_LOADS = 100  # of a document
+MOST_DOCUMENTS = 64  # of a play
+
+
+class Question:
+    """An item of one of the keys: what is loaded, by which document, and what is expected of its policies."""
+
+    def __init__(self, key, text):
+        document, self.kind, self.url = ITEM.fullmatch(text).groups()
+        self.key = key
+        self.text = text
+        self.document = int(document or 0)
+
+    def command(self):
+        return {"fetch": {"url": self.url}} if self.kind == "fetch" else {"load": {"kind": self.kind, "url": self.url}}
+
+
+def problem(text):
+    """What is wrong with an item, in a sentence; None where nothing is."""
+    found = ITEM.fullmatch(text)
+    if found is None:
+        return 'write what loads the URL before it, as in %s: one of %s' % (EXAMPLE, ", ".join(KINDS))
+    _, kind, url = found.groups()
+    if kind not in KINDS:
+        meant = nearest(kind, KINDS)
+        return 'nothing is loaded as "%s": write %s' % (kind, '"%s"' % meant if meant else "one of " + ", ".join(KINDS))
+    scheme = re.match(r"([A-Za-z][A-Za-z0-9+.-]*):", url)
+    if scheme and scheme.group(1).lower() not in ("http", "https"):
+        return 'no policy is asked here about "%s:": this engine loads http and https alone' % scheme.group(1)
+    if "${" in url:
+        return "no template stands in this URL: write %24{ for ${"
+    return None
+
+
+def differences(expect, scenario):
+    """Lines for each question that is answered otherwise than expected."""
+    questions = [Question(key, text) for key in KEYS for text in listed(expect.get(key, []))]
+    count = len(scenario.documents())
+    for question in questions:
+        if question.document >= count:
+            yield "%s: %s: the scenario has %d document%s" % (
+                question.key, question.text, count, "" if count == 1 else "s")
+    known = [question for question in questions if question.document < count]
+    for case, question in answered(scenario.data, known):
+        yield from difference(question, case)
+
+
+def listed(wanted):
+    return [wanted] if isinstance(wanted, str) else wanted
+
+
+# ---- the play
+
+def answered(data, questions):
+    """Pairs of a case and its question."""
+    parts = list(parts_of(questions))
+    for start in range(0, len(parts), MOST_DOCUMENTS):
+        yield from played(data, parts[start:start + MOST_DOCUMENTS])
+
+
+def parts_of(questions):
+    """The questions of each document, in parts that one document can load."""
+    by_document = {}
+    for question in questions:
+        by_document.setdefault(question.document, []).append(question)
+    for own in by_document.values():
+        for start in range(0, len(own), MOST_LOADS):
+            yield own[start:start + MOST_LOADS]
+
+
+def played(data, parts):
+    """Plays a document for each part. Pairs of a case, which is None where the run had ended before it, and its question."""
+    _, _, told = asking.played(json.dumps(scenario_of(data, parts)).encode("utf-8"))
+    cases = {(case.fetch.document.number, case.fetch.number): case for case in told.cases}
+    return [(cases.get((number, index)), question)
+            for number, part in enumerate(parts) for index, question in enumerate(part)]
+
+
+def scenario_of(data, parts):
+    documents = [document_of(data["documents"][part[0].document], part) for part in parts]
+    origins = {origin for part, document in zip(parts, documents) for question in part
+               for origin in origins_of(joined(question.url, document["url"]))}
+    known = {key: data[key] for key in ("now", "hsts") if key in data}
+    servers = [{"origin": origin, "rules": [ANSWER]} for origin in sorted(origins)]
+    return {"format": 2, **known, "servers": servers, "documents": documents}
+
+
+def document_of(document, part):
+    """The document, with a script that loads all of a part."""
+    given = {key: document[key] for key in ("url", "top", "headers") if key in document}
+    return {**given, "script": [question.command() for question in part]}
+
+
+def origins_of(url):
+    """The origins that a URL may be asked at: its own, and that of https where it is upgraded."""
+    own = {origin_of(url), origin_of("https" + url[4:]) if url.lower().startswith("http:") else None}
+    return [origin for origin in own if origin and PLAIN.fullmatch(origin)]
+
+
+# ---- the answers
+
+def difference(question, case):
+    if case is None:
+        yield "%s: %s was not asked: the play of its document has too many lines" % (question.key, question.text)
+        return
+    came = case.result.short()
+    if question.key == "reported":
+        if not any(not one.enforced for one in case.fetch.of("violation")):
+            yield "reported: expected that a report-only policy reports %s; none does" % question.text
+        return
+    is_blocked = not case.result.is_fault and case.result.number in POLICY_ERRORS
+    if question.key == "blocked" and not is_blocked:
+        yield "blocked: expected that a policy refuses %s; it came to %s" % (question.text, came)
+    if question.key == "allowed" and (is_blocked or not case.exchanges):  # by another rule, where nothing is sent
+        yield "allowed: expected that %s is let through; it came to %s" % (question.text, came)
+        yield from ("  " + line for line in (case.explanation.lines() if case.explanation else []))
