@@ -322,6 +322,8 @@ ON_PURPOSE = {
     "gallery/hsts-first-visit": {"hsts/over-http": "that it is ignored is shown"},
     "gallery/integrity-204": {"integrity/opaque": SHOWN},
     "gallery/max-age-edges": {"cors/max-age-no-number": "`-1`, and two of them, are edges"},
+    "gallery/policy-without-effect": dict.fromkeys(["csp/directive-twice", "csp/does-nothing", "csp/header-misspelt",
+                                                    "csp/semicolon-missing", "csp/unknown-directive"], QUESTION),
     "gallery/star-learnt": {"cors/headers-star-with-credentials": QUESTION,
                             "cors/methods-star-with-credentials": QUESTION},
     "gallery/star-with-credentials": {"cors/credentials-not-true": SHOWN, "cors/star-with-credentials": QUESTION},
