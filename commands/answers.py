@@ -138,8 +138,8 @@ class Chunks:
 
     def take_trailer(self, line):
         self.trailers += len(line)
-        self.is_whole = line == b"\r\n"
         self.is_broken = self.trailers > MOST_TRAILERS or not line.endswith(b"\r\n") or line.count(b"\r") > 1
+        self.is_whole = line == b"\r\n" and not self.is_broken
 
 
 def whole_chunks(data, at, found):
