@@ -25,6 +25,7 @@ SENT = {
 ADDED = {
     "user-agent": OWN + ", which asks for no preflight",
     "priority": OWN,
+    "authority": "a browser sends the host of the URL",
     "alt-used": OWN,
     "x-client-data": OWN,
     "upgrade-insecure-requests": "a browser sends it where it opens a page",
