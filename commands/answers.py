@@ -1,6 +1,6 @@
 """The answers of servers: what a scripted server says by its rules, and what the bytes of an answer are
-(docs/rules/answers.md). Bytes are looked at once, in whatever pieces they come, so no server can make this dearer than what
-it sends is long."""
+(docs/rules/answers.md). Bytes are looked at once, in whatever pieces they come, so no server can make this dearer than
+what it sends is long."""
 import re
 
 STATUS_LINE = re.compile(rb"HTTP/1\.[01] (\d\d\d)(?: [^\r\n]*)?")

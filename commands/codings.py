@@ -110,8 +110,8 @@ def unchunked(pieces):
 
 
 def decoded(pieces, own):
-    """What a decoder makes of pieces. What comes behind its end is read and left out, as browsers do it; an empty body is
-    one in any coding."""
+    """What a decoder makes of pieces. What comes behind its end is read and left out, as browsers do it; an empty body
+    is one in any coding."""
     is_empty = True
     for piece in pieces:
         is_empty = is_empty and not piece
@@ -124,9 +124,9 @@ def decoded(pieces, own):
 
 
 class Stream:
-    """The answer to a request as the engine reads it. `codings` are those of its body, in order; `lacks` those that nothing
-    here decodes. `head` is that which the engine was fed in the place of what came, where it was; `body` is what was
-    decoded, `is_opened` says that the engine asked for it, and `fault` what is wrong in it."""
+    """The answer to a request as the engine reads it. `codings` are those of its body, in order; `lacks` those that
+    nothing here decodes. `head` is that which the engine was fed in the place of what came, where it was; `body` is what
+    was decoded, `is_opened` says that the engine asked for it, and `fault` what is wrong in it."""
 
     def __init__(self, receive, method):
         self.method = method

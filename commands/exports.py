@@ -45,8 +45,8 @@ class Export:
         if body is not None and body.decode("utf-8", "replace").encode() != body:
             self.lacks.append("the body is no UTF-8, and a scenario has texts: it is another there")
         if question.given.book:
-            self.lacks.append("the scenario begins with the known hosts of --hsts alone and an empty preflight cache, at "
-                              "time 0")
+            self.lacks.append("the scenario begins with the known hosts of --hsts alone and an empty preflight cache, "
+                              "at time 0")
         requests = [request for case in cases for request, _ in case.exchanges]
         self.scenario = question.scenario(servers=self.servers(zip(requests, exchanges)))
         self.scenario["documents"][0]["headers"].append(MARK)

@@ -141,7 +141,8 @@ class Wire:
 
 
 def looked_up(host, port, seconds):
-    """The addresses of a host. The system may take longer than there is time: a thread asks it, and is left alone then."""
+    """The addresses of a host. The system may take longer than there is time: a thread asks it, and is left alone
+    then."""
     found = []
 
     def look_up():

@@ -1,5 +1,5 @@
-"""What the words of bin/ask come to for a page: which of the headers a script can set, what a browser sends in the place of
-the others, and what a request that was copied as cURL says of its page."""
+"""What the words of bin/ask come to for a page: which of the headers a script can set, what a browser sends in the place
+of the others, and what a request that was copied as cURL says of its page."""
 import base64
 
 import fiorrudda
@@ -37,8 +37,8 @@ ABOUT_PAGE = ("origin", "referer")
 
 
 class Said:
-    """The request of a page: `url`, `method`, `headers`, `body`, `mode`, `credentials`, `load`, `crossorigin`; its `page`
-    (None where nothing says it) and its `cookies`; `notes` say what became of the rest."""
+    """The request of a page: `url`, `method`, `headers`, `body`, `mode`, `credentials`, `load`, `crossorigin`; its
+    `page` (None where nothing says it) and its `cookies`; `notes` say what became of the rest."""
 
     def __init__(self, given, url):
         self.given = given

@@ -8,8 +8,8 @@ from commands.ask_words import Wrong
 
 TELLING = 1  # seconds, behind the time limit, to tell what came
 
-# What is printed of one URL: `story` are pairs of a line of the play and lines of our own; `faults` are notes that no word
-# keeps back; `data` is the same for --json.
+# What is printed of one URL: `story` are pairs of a line of the play and lines of our own; `faults` are notes that no
+# word keeps back; `data` is the same for --json.
 Reply = namedtuple("Reply", "status verdict story notes faults data")
 
 

@@ -1,5 +1,5 @@
-"""Several URLs for bin/ask: each is asked by itself, in a process, so that the time limit of each holds and what goes wrong in
-one is said of that one alone. They are told in their order."""
+"""Several URLs for bin/ask: each is asked by itself, in a process, so that the time limit of each holds and what goes
+wrong in one is said of that one alone. They are told in their order."""
 import concurrent.futures
 import multiprocessing
 import signal
