@@ -1,13 +1,38 @@
-"""The answers of servers: what a scripted server says by its rules, and what the bytes of an answer are."""
+"""The answers of servers: what a scripted server says by its rules, and what the bytes of an answer are
+(docs/rules/answers.md). Bytes are looked at once, in whatever pieces they come, so no server can make this dearer than
+what it sends is long."""
 import re
 
 STATUS_LINE = re.compile(rb"HTTP/1\.[01] (\d\d\d)(?: [^\r\n]*)?")
 LINE_END = re.compile(rb"\r?\n")
+BLANK_LINES = re.compile(rb"[\r\n]*")
+HEAD_END = re.compile(rb"\n\r?\n")
 HEADER_LINE = re.compile(rb"([!#$%&'*+\-.^_`|~0-9A-Za-z]+):([^\x00-\x08\x0b-\x1f\x7f]*)")
+CHUNK_LINE = re.compile(rb"([0-9a-fA-F]{1,16})[\t ]*(?:;[^\r\n]*)?\r\n")
 LENGTH = re.compile(r"[0-9]{1,18}")
+TLS_RECORDS = (b"\x15\x03", b"\x16\x03")  # an alert, or a handshake
 NO_RULE = b"HTTP/1.1 404 Scripted\r\n\r\n"
 MOST_LINES = 128
 MOST_HEAD = 65536
+MOST_CHUNK_LINE = 4096
+MOST_TRAILERS = 8192
+MOST_KEPT = 67108864
+
+
+class Pieces:
+    """Bytes that come in pieces. What comes behind the first MOST_KEPT is not kept."""
+
+    def __init__(self):
+        self.data = bytearray()
+        self.known = b""
+
+    def add(self, piece):
+        self.data += piece[:MOST_KEPT - len(self.data)]
+
+    def joined(self):
+        if len(self.known) != len(self.data):
+            self.known = bytes(self.data)
+        return self.known
 
 
 class Head:
@@ -17,6 +42,9 @@ class Head:
         self.status = status
         self.headers = headers
         self.end = end
+
+    def is_final(self):
+        return self.status == 101 or not 100 <= self.status <= 199
 
     def values(self, name):
         return [value for own, value in self.headers if own.lower() == name.lower()]
@@ -29,7 +57,7 @@ class Head:
 
 class Answer:
     """What came for one request. Of a scripted server `server` and `rule` are numbers, or None where there is none; over a
-    network `link` says how the connection went: done, or a word of relay.py. `skipped` are heads before the final one."""
+    network `link` says how the connection went: done, or a word of relay.py."""
 
     def __init__(self, data, server=None, rule=None, link=None):
         self.data = data
@@ -37,12 +65,17 @@ class Answer:
         self.rule = rule
         self.link = link
         self.problem, self.head = parsed(data)
+        self.known_body = None
 
     def body(self):
         """The body's bytes, as far as they came, by its framing."""
-        rest = self.data[self.head.end:]
+        if self.known_body is None:
+            self.known_body = self.framed(self.data[self.head.end:])
+        return self.known_body
+
+    def framed(self, rest):
         if (self.head.get("Transfer-Encoding") or "").lower() == "chunked":
-            return chunks(rest)
+            return Chunks().feed(rest)
         return rest[:self.length()]
 
     def length(self):
@@ -51,14 +84,76 @@ class Answer:
         return int(found.group()) if found else None
 
 
-def chunks(rest):
-    found, data = re.match(rb"([0-9a-fA-F]+)[^\r\n]*\r\n", rest), b""
-    while found and int(found.group(1), 16):
-        size = int(found.group(1), 16)
-        data += rest[found.end():found.end() + size]
-        rest = rest[found.end() + size + 2:]
-        found = re.match(rb"([0-9a-fA-F]+)[^\r\n]*\r\n", rest)
-    return data
+class Chunks:
+    """A body in chunks, taken apart as its bytes come. `is_whole` says that its end came, `is_broken` that a byte does
+    not fit."""
+
+    def __init__(self):
+        self.is_whole = self.is_broken = False
+        self.left = 0  # bytes of the chunk that has begun, with its line end
+        self.line = b""  # what came of a line that is not whole
+        self.trailers = None  # how many bytes of them came, behind the last chunk
+
+    def feed(self, piece):
+        """The data in the next bytes."""
+        data, at, found = self.line + piece, 0, []
+        self.line = b""
+        while at < len(data) and not self.is_whole and not self.is_broken:
+            if not self.left:
+                at = self.take_line(data, at)
+            else:
+                at = self.take_data(data, at, found)
+                at = at if self.left or self.is_broken else whole_chunks(data, at, found)
+        return b"".join(found)
+
+    def take_data(self, data, at, found):
+        """Takes what is there of the chunk and of its line end; where the next bytes stand."""
+        end = min(at + max(self.left - 2, 0), len(data))
+        found.append(data[at:end])
+        self.left -= end - at
+        ending = data[end:end + self.left] if self.left <= 2 else b""
+        self.is_broken = not b"\r\n"[2 - min(self.left, 2):].startswith(ending)
+        self.left -= len(ending)
+        return end + len(ending)
+
+    def take_line(self, data, at):
+        """Takes a line that says how long a chunk is, or one behind the last; where the next one stands."""
+        end = data.find(b"\n", at) + 1
+        line = data[at:end] if end else data[at:]
+        if not end:
+            self.line = line
+            self.is_broken = len(line) >= (MOST_CHUNK_LINE if self.trailers is None else MOST_TRAILERS - self.trailers)
+        elif self.trailers is None:
+            self.take_size(line)
+        else:
+            self.take_trailer(line)
+        return at + len(line)
+
+    def take_size(self, line):
+        found = CHUNK_LINE.fullmatch(line) if len(line) <= MOST_CHUNK_LINE else None
+        size = int(found.group(1), 16) if found else 0
+        self.is_broken = found is None
+        self.left = size + 2 if size else 0
+        self.trailers = None if size else 0
+
+    def take_trailer(self, line):
+        self.trailers += len(line)
+        self.is_broken = self.trailers > MOST_TRAILERS or not line.endswith(b"\r\n") or line.count(b"\r") > 1
+        self.is_whole = line == b"\r\n" and not self.is_broken
+
+
+def whole_chunks(data, at, found):
+    """Takes the chunks that are there with their line ends, which most are: where the next bytes stand."""
+    line = CHUNK_LINE.match(data, at)
+    while line and line.end() - at <= MOST_CHUNK_LINE:
+        begin = line.end()
+        end = begin + int(line.group(1), 16)
+        if end == begin or data[end:end + 2] != b"\r\n":
+            break
+        found.append(data[begin:end])
+        at = end + 2
+        line = CHUNK_LINE.match(data, at)
+    return at
 
 
 def scripted(scenario, request):
@@ -81,28 +176,56 @@ def data_of(rule):
 
 # ---- heads
 
+class Beginning:
+    """The first bytes of an answer, up to those that decide whether it has a head: `head` is the final one, `problem` says
+    in a word why there is none, and neither is there before."""
+
+    def __init__(self):
+        self.data = bytearray()
+        self.problem = self.head = None
+        self.start = 0  # of the head that is read
+        self.seen = 0  # so far its end was looked for
+
+    def add(self, piece):
+        """The next bytes; whether it is decided now."""
+        self.data += piece
+        while not self.is_decided() and self.next_head():
+            pass
+        return self.is_decided()
+
+    def is_decided(self):
+        return self.problem is not None or self.head is not None
+
+    def next_head(self):
+        """Reads the next head, if its end is there; whether it is."""
+        self.start = BLANK_LINES.match(self.data, self.start).end()
+        end = HEAD_END.search(self.data, max(self.start, self.seen - 2))
+        if (end.end() if end else len(self.data)) > MOST_HEAD:
+            self.problem = "too-big"
+        elif end:
+            self.problem, head = lines_of(bytes(self.data[self.start:end.start()]), end.end())
+            if head and head.is_final():
+                self.head = head
+            elif head:
+                self.start = head.end
+        else:
+            self.seen = len(self.data)
+        return bool(end)
+
+    def why(self):
+        """Why there is no head, where no more bytes come."""
+        if self.start == len(self.data):
+            return "nothing"
+        if self.data.startswith(TLS_RECORDS, self.start):
+            return "tls"
+        return self.problem or ("cut" if STATUS_LINE.match(self.data, self.start) else "no-status-line")
+
+
 def parsed(data):
     """A word that says what is wrong, or None, and the head, or None."""
-    at = 0
-    while True:
-        problem, head = one_head(data, at)
-        if head is None or head.status == 101 or not 100 <= head.status <= 199:
-            return problem, head
-        at = head.end
-
-
-def one_head(data, at):
-    if not data[at:].strip(b"\r\n"):
-        return "nothing", None
-    if data[at:].startswith((b"\x15\x03", b"\x16\x03")):
-        return "tls", None
-    start = len(data) - len(data[at:].lstrip(b"\r\n"))
-    end = re.compile(rb"\n\r?\n").search(data, start)
-    if (end.end() if end else len(data)) > MOST_HEAD:
-        return "too-big", None
-    if not end:
-        return ("cut" if STATUS_LINE.match(data, start) else "no-status-line"), None
-    return lines_of(data[start:end.start()], end.end())
+    beginning = Beginning()
+    beginning.add(data[:MOST_HEAD + 1])
+    return None if beginning.head else beginning.why(), beginning.head
 
 
 def lines_of(block, end):

@@ -1,21 +1,20 @@
 """What bin/ask does: makes the fetch that a page would make, over real connections, and tells what came and why."""
 import json
 import os
-import tempfile
+import re
 import time
 from urllib.parse import urlsplit
 
 import fiorrudda
 
-from commands import answers, json_text, lints, live, play_text, results, streams, told
+from commands import answers, exports, json_text, lints, live, pasted, play_text, told, verdicts
+from commands.ask_words import Wrong
 from commands.scenario import Scenario, joined, origin_of
 
 LIMIT = 1048576
-NO_CONNECTION = ("unknown-name", "refused", "unreached", "certificate", "no-tls", "hang", "reset")
-
-
-class Wrong(Exception):
-    """Words that no page could ask by, in a sentence."""
+KNOWN_FOR = 31536000
+OWN_ORIGIN = "it was asked as from a page of its own origin; --from PAGE asks as another page would"
+PACKAGES = {"br": "Debian's package python3-brotli"}
 
 
 def book_of(path):
@@ -31,148 +30,168 @@ def book_of(path):
         raise Wrong("%s is no book that --book wrote: %s at line %d" % (path, fault.name, fault.line)) from None
 
 
-def keep(book, path):
-    """Writes a book into a file that its owner alone can read, in the place of what is there, or leaves that as it is.
-    What is wrong, in a sentence, or None."""
-    try:
-        number, beside = tempfile.mkstemp(prefix=os.path.basename(path) + ".", dir=os.path.dirname(path) or ".")
-    except OSError as error:
-        return "%s is as it was: %s" % (path, error.strerror)
-    try:
-        with os.fdopen(number, "wb") as file:
-            file.write(book.export())
-            file.flush()
-            os.fsync(file.fileno())
-        os.replace(beside, path)
-    except OSError as error:
-        os.remove(beside)
-        return "%s is as it was: %s" % (path, error.strerror)
-    return None
-
-
 def refuse_others(given):
     """Refuses words that say nothing of what is asked for: an element that loads has its own method and mode."""
-    others = ("method", "header", "data", "data_raw", "mode", "credentials", "redirect") if given.load else ("crossorigin",)
-    for name in others:
-        if getattr(given, name) not in (None, []):
-            raise Wrong("--%s is not used %s --load: leave it out" % (name.replace("_", "-"), "with" if given.load else "without"))
+    others = {"--method": given.method or given.head, "--header": given.header or given.user, "--data": given.bodies,
+              "--mode": given.mode, "--credentials": given.credentials, "--redirect": given.redirect}
+    for word, value in others.items() if given.load else [("--crossorigin", given.crossorigin)]:
+        if value:
+            raise Wrong("%s is not used %s --load: leave it out" % (word, "with" if given.load else "without"))
 
 
-def body_of(given):
-    """The bytes of the request's body: of --data, or of the file that it names behind an @; None where there is none."""
-    if given.data is None or not given.data.startswith("@"):
-        text = given.data_raw if given.data is None else given.data
-        return None if text is None else text.encode("utf-8", "surrogateescape")
+def origin_of_page(given, page):
+    """Refuses what is no page."""
     try:
-        return streams.read(given.data[1:])
-    except OSError as error:
-        raise Wrong("--data: %s: %s" % (given.data[1:], error.strerror)) from None
+        return fiorrudda.origin(page)
+    except fiorrudda.FiorruddaError:
+        if not given.page and page.partition(":")[0].lower() in verdicts.NOT_LOADED:
+            raise Wrong("%.200s has no page of its own: name the page that asks by --from" % page) from None
+        raise Wrong("%s is no http or https URL%s: write it whole, as https://api.example/x"
+                    % (page, " of a page" if given.page else "")) from None
 
 
 class Question:
-    """The words of bin/ask, as a scenario of one document, and as what the library takes."""
+    """The words of bin/ask for one URL, as a scenario of one document, and as what the library takes."""
 
-    def __init__(self, given):
+    def __init__(self, given, url):
         self.given = given
-        self.page = given.page or given.url
-        try:
-            fiorrudda.origin(self.page)
-        except fiorrudda.FiorruddaError:
-            raise Wrong("%s is no http or https URL%s: write it whole, as https://api.example/x"
-                        % (self.page, " of a page" if given.page else "")) from None
         refuse_others(given)
-        self.body = body_of(given)
+        self.said = pasted.Said(given, url)
+        self.url, self.body = self.said.url, self.said.body
+        self.page = self.said.page or self.url
+        origin_of_page(given, self.page)
         # That of the URL, where it is an http or https one: a cookie is kept for it.
-        self.origin = origin_of(joined(given.url, self.page))
-        if given.cookie and self.origin is None:
-            raise Wrong("%s is no http or https URL, and no cookie goes to it: leave --cookie out" % given.url)
-        for path in filter(None, (given.book, given.export)):
-            if not os.access(os.path.dirname(path) or ".", os.W_OK):
-                raise Wrong("%s cannot be written" % path)
+        self.origin = origin_of(joined(self.url, self.page))
+        if self.said.cookies and self.origin is None:
+            raise Wrong("%s is no http or https URL, and no cookie goes to it: leave --cookie out" % self.url)
+        if given.book and not os.access(os.path.dirname(given.book) or ".", os.W_OK):
+            raise Wrong("%s cannot be written" % given.book)
+        if given.export:
+            exports.refuse_path(given.export)
         # What is known of earlier calls holds until a time of the clock.
         self.now = int(time.time()) if given.book else 0
         self.book = book_of(given.book) if given.book else fiorrudda.Book()
+        self.hosts = [self.known(*one) for one in given.hsts]
+
+    def known(self, word, with_subdomains):
+        """Has a host of --hsts in the book: as a scenario writes it."""
+        host = domain_of(word)
+        if host is None:
+            raise Wrong("--hsts: %s is no host that can be known: write a domain, no address and no localhost" % word)
+        self.book.note(host, "max-age=%d%s" % (KNOWN_FOR, "; includeSubDomains" if with_subdomains else ""), self.now)
+        return {"host": host, "subdomains": with_subdomains, "until": KNOWN_FOR}
 
     def cookies(self):
-        return [[self.origin, "; ".join(self.given.cookie)]] if self.given.cookie else []
+        return [[self.origin, "; ".join(self.said.cookies)]] if self.said.cookies else []
 
     def options(self):
         """The keys of the fetch or load, as a scenario has them."""
-        given = self.given
-        if given.load:
-            options = {"kind": given.load, "crossorigin": given.crossorigin, "integrity": given.integrity}
+        given, said = self.given, self.said
+        if said.load:
+            options = {"kind": said.load, "crossorigin": said.crossorigin, "integrity": given.integrity}
         else:
-            options = {"method": given.method or ("POST" if self.body is not None else None), "mode": given.mode,
-                       "credentials": given.credentials, "redirect": given.redirect, "body": self.body,
-                       "headers": [list(one) for one in given.header] or None, "integrity": given.integrity}
-        return {"url": given.url, **{key: value for key, value in options.items() if value is not None}}
+            options = {"method": said.method or ("POST" if self.body is not None else None), "mode": said.mode,
+                       "credentials": said.credentials, "redirect": given.redirect, "body": self.body,
+                       "headers": [list(one) for one in said.headers] or None, "integrity": given.integrity}
+        return {"url": self.url, **{key: value for key, value in options.items() if value is not None}}
 
     def command(self):
         options = self.options()
-        if self.body is not None:
+        if self.body is not None and not self.said.load:
             options["body"] = self.body.decode("utf-8", "replace")
-        return {"load" if self.given.load else "fetch": options}
+        return {"load" if self.said.load else "fetch": options}
 
     def scenario(self, **more):
         """`more` are its servers, or its routes."""
         headers = [["Content-Security-Policy", value] for value in self.given.policy]
         headers += [["Referrer-Policy", self.given.referrer_policy]] if self.given.referrer_policy else []
         document = {"url": self.page, "headers": headers, "script": [self.command()] * (2 if self.given.twice else 1)}
-        return {"format": 2, **({"cookies": self.cookies()} if self.given.cookie else {}), **more, "documents": [document]}
+        known = {"cookies": self.cookies(), "hsts": self.hosts}
+        return {"format": 2, **{key: value for key, value in known.items() if value}, **more, "documents": [document]}
 
     def client(self):
         policy = fiorrudda.ReferrerPolicy[(self.given.referrer_policy or "default").upper().replace("-", "_")]
         try:
             return fiorrudda.Client(self.page, policy=policy, policies=self.given.policy, cookies=self.cookies())
         except fiorrudda.NotAHeader:
-            raise Wrong("--cookie: no header has the value %r: take line ends and zero bytes out" % self.cookies()[0][1]) from None
+            raise Wrong("--cookie: no header has the value %r: take line ends and zero bytes out"
+                        % self.cookies()[0][1]) from None
 
     def request(self):
         options = self.options()
         url = options.pop("url")
-        if self.given.load:
+        if self.said.load:
             return fiorrudda.Load(options.pop("kind"), url, parser=True, **options)
         return fiorrudda.Request(url, **options)
 
 
+def domain_of(word):
+    """A domain as URLs have it; None where it is none, or a localhost name."""
+    try:
+        host = fiorrudda.origin("http://%s/" % word).partition("://")[2]
+    except fiorrudda.FiorruddaError:
+        return None
+    is_none = re.search(r"[/:?#@]", word) or re.search(r"(?:^|\.)(?:localhost|[0-9]+)\.?$", host)
+    return None if is_none else host
+
+
 class Answered:
-    """What came of a question: the lines, the exchanges in order, and what is told of them."""
+    """What came of a question: the lines, the exchanges in order, and what is told of them. `play` asks, `tell` tells; each
+    may be ended by the time limit, and leaves what had come."""
 
     def __init__(self, question):
         self.question = question
+        self.told = self.export = None
         self.wire = live.Wire(question.given.timeout, question.given.connect_to)
-        page = live.Page(question.page, question.client(), self.wire, LIMIT, question.book, question.now)
-        for _ in range(2 if question.given.twice else 1):
-            page.ask(question.request, question.given.load)
-        self.unkept = keep(question.book, question.given.book) if question.given.book else None
-        self.text = page.text()
-        scenario = Scenario(json_text.read(json.dumps(question.scenario(routes=self.routes()))))
-        self.left = list(self.wire.exchanges)
-        self.told = told.Told(scenario, play_text.read(self.text), self.answer_of, is_net="direct")
+        self.page = live.Page(question.page, question.client(), self.wire, LIMIT, question.book, question.now)
+
+    def play(self):
+        for _ in range(2 if self.question.given.twice else 1):
+            self.page.ask(self.question.request, self.question.said.load)
+        return self
+
+    def tell(self):
+        self.text = self.page.text()
+        scenario = Scenario(json_text.read(json.dumps(self.question.scenario(routes=self.routes()))))
+        left = iter(self.wire.exchanges)
+        self.told = told.Told(scenario, play_text.read(self.text), lambda request: Came(next(left)), is_net="direct")
+        self.verdict = verdicts.verdict(self.told.cases)
+        if self.question.given.export:
+            self.export = exports.Export(self.question, self.told.cases, self.wire.exchanges)
+        return self
 
     def routes(self):
         """The address of each origin that was asked, as a scenario has them."""
         found = {exchange.origin: self.wire.place(exchange.origin) for exchange in self.wire.exchanges}
-        return [[origin, ("[%s]:%d" if ":" in host else "%s:%d") % (host, port)] for origin, (host, port) in found.items()]
-
-    def answer_of(self, request):
-        exchange = self.left.pop(0)
-        return answers.Answer(exchange.answer, link=exchange.link)
+        return [[origin, ("[%s]:%d" if ":" in host else "%s:%d") % (host, port)]
+                for origin, (host, port) in found.items()]
 
     def notes(self):
         """What is to be said besides, in sentences."""
-        given = self.question.given
-        found = [] if given.page else ["it was asked as from a page of its own origin; --from PAGE asks as another page would"]
-        found += [self.of_cookies()] if given.cookie else []
+        said = self.question.said
+        found = [] if said.page else [OWN_ORIGIN]
+        found += said.notes
+        found += [self.of_cookies()] if said.cookies else []
         found += ["%s: %s" % (one.origin, one.note) for one in self.wire.exchanges if one.note]
-        found += [self.unkept] if self.unkept else []
+        found += [note for one in self.wire.exchanges for note in self.of_coding(one)]
         found += lints.notes(self.told)
-        return list(filter(None, found))
+        return list(dict.fromkeys(filter(None, found)))
+
+    def of_coding(self, exchange):
+        """What is to be said of a body that came coded, though the request said identity."""
+        stream = exchange.stream
+        if stream.is_opened:
+            yield "%s: the body came as %s all the same: it was decoded, as a browser does it%s" % (
+                exchange.origin, ", ".join(stream.codings), "; " + stream.fault if stream.fault else "")
+        if stream.lacks and any(case.result.number == verdicts.CODING for case in self.told.cases):
+            packages = list(filter(None, map(PACKAGES.get, stream.lacks)))
+            yield "%s: %s is not decoded here%s" % (
+                exchange.origin, ", ".join(stream.lacks), ": %s does it" % packages[0] if packages else "")
 
     def of_cookies(self):
         """What is to be said of the cookies that were given, or None."""
         own, page = self.question.origin, self.question.page
-        requests = [request for case in self.told.cases for request, _ in case.exchanges if not play_text.is_preflight(request)]
+        requests = [request for case in self.told.cases for request, _ in case.chain]
         if not requests:
             return "no cookie was sent, since only a preflight was sent, or nothing"
         if any(play_text.header_of(request, "Cookie") for request in requests):
@@ -189,11 +208,7 @@ class Answered:
         return "no cookie was sent: they are those of %s, and no request went there" % own
 
     def status(self):
-        """0 read, 1 refused or not to be read, 3 no connection or the time limit."""
-        result = self.told.cases[-1].result
-        if any(one.link in (*NO_CONNECTION, "tls-port") for one in self.wire.exchanges):
-            return 3
-        return 0 if results.is_met("read", result) and result.ending != "cut" else 1
+        return self.verdict[0]
 
     def pieces(self):
         """The lines of the play between its first line and its end, each with what is said of it."""
@@ -203,64 +218,23 @@ class Answered:
             if number:
                 yield line, own
 
-    # ---- a scenario that plays the same
 
-    def exported(self):
-        """The scenario, and what it does not have, in sentences."""
-        rules, lacks, kept = {}, [], {}
-        if self.question.body is not None and self.question.command()["fetch"]["body"].encode() != self.question.body:
-            lacks.append("the body is no UTF-8, and a scenario has texts: it is another there")
-        if self.question.given.book:
-            lacks.append("the scenario begins with no known host and an empty preflight cache, at time 0")
-        requests = [request for case in self.told.cases for request, _ in case.exchanges]
-        for request, exchange in zip(requests, self.wire.exchanges):
-            key = (request.origin, request.method, request.target)
-            if exchange.link in NO_CONNECTION:
-                lacks.append("the connection to %s failed, which a scripted server does not" % request.origin)
-            elif key in kept:
-                lacks += ["%s %s was answered twice: the first answer is kept" % key[1:]] * (kept[key] != exchange.answer)
-            else:
-                kept[key] = exchange.answer
-                rules.setdefault(request.origin, []).append(rule_of(request, exchange.answer, lacks))
-        servers = [{"origin": origin, "rules": own} for origin, own in rules.items()]
-        return self.question.scenario(servers=servers), lacks
+class Came(answers.Answer):
+    """The answer of an exchange: as it came, with the body that the engine read."""
+
+    def __init__(self, exchange):
+        super().__init__(exchange.answer, link=exchange.link)
+        self.stream = exchange.stream
+
+    def framed(self, rest):
+        return self.stream.body.joined() if self.stream.is_opened else super().framed(rest)
+
+    def length(self):
+        if not self.stream.is_opened:
+            return super().length()
+        return len(self.body()) + (not self.stream.is_whole)
 
 
-def rule_of(request, data, lacks):
-    """The rule that gives these bytes."""
-    rule = {"method": request.method, "path": request.target}
-    try:
-        return {**rule, "raw": data.decode("utf-8")}
-    except UnicodeDecodeError:
-        lacks.append("the answer to %s %s has bytes that are no UTF-8: they are left out" % (request.method, request.target))
-        return {**rule, "raw": data.decode("utf-8", "ignore")}
-
-
-def ask(self, given):
-    """Prints all of it, and gives the status."""
-    try:
-        answered = Answered(Question(given))
-    except Wrong as wrong:
-        return streams.complain(2, "%s: %s" % (self, wrong))
-    except fiorrudda.FiorruddaError as error:
-        return streams.complain(2, "%s: %s" % (self, error))
-    except UnicodeEncodeError:
-        return streams.complain(2, "%s: a word is no UTF-8" % self)
-    notes = answered.notes()
-    if given.export:
-        scenario, lacks = answered.exported()
-        notes += ["%s: %s" % (given.export, one) for one in dict.fromkeys(lacks)]
-        try:
-            with open(given.export, "w", encoding="utf-8") as file:
-                json.dump(scenario, file, indent=1, ensure_ascii=False)
-                file.write("\n")
-        except OSError as error:
-            notes.append("%s is not written: %s" % (given.export, error.strerror))
-    if given.json:
-        streams.write_json({"notes": notes, "fetches": answered.told.data()})
-    else:
-        for line, own in answered.pieces():
-            streams.write_play(line)
-            streams.write_lines(own)
-        streams.write_lines("# note: " + one for one in notes)
-    return answered.status()
+def answered(given, url):
+    """What comes of a question, whatever time it takes."""
+    return Answered(Question(given, url)).play().tell()

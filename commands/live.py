@@ -3,28 +3,53 @@ prints it."""
 import re
 import socket
 import ssl
+import threading
 import time
 from urllib.parse import urlsplit
 
 import fiorrudda
 from fiorrudda import printed
 
+from commands import answers, codings
+
 PIECE = 65536
 PORTS = {"http": 80, "https": 443}
-RECORD = (b"\x15\x03", b"\x16\x03")  # an alert, or a handshake
 BAD_REQUEST = re.compile(rb"HTTP/1\.[01] 400[ \r\n]")
 TOLD_BY = re.compile(rb"plain HTTP|HTTPS|requires TLS")
 
 
 class Exchange:
-    """One request and the bytes of its answer. `link` says how the connection went: done, unknown-name, refused, unreached,
-    certificate, no-tls, tls-port, hang, reset; `note` has what the system says of it."""
+    """One request and the bytes of its answer. `link` says how the connection went: done, unknown-name, refused,
+    unreached, certificate, no-tls, tls-port, hang, reset; `note` has what the system says of it. `stream` is what the
+    engine reads."""
 
-    def __init__(self, origin):
+    def __init__(self, origin, method, receive):
         self.origin = origin
-        self.answer = b""
-        self.link = "done"
-        self.note = ""
+        self.kept = answers.Pieces()
+        self.stream = codings.Stream(receive, method)
+        self.failure, self.said = None, ""
+
+    @property
+    def answer(self):
+        return self.kept.joined()
+
+    @property
+    def fed(self):
+        """The answer as the engine was fed it."""
+        fed = self.stream.fed()
+        return self.answer if fed is None else fed
+
+    @property
+    def is_tls_port(self):
+        return self.origin.startswith("http:") and is_of_tls_port(self.answer[:PIECE])
+
+    @property
+    def link(self):
+        return "tls-port" if self.is_tls_port else self.failure or "done"
+
+    @property
+    def note(self):
+        return "" if self.is_tls_port else self.said
 
 
 class Wire:
@@ -41,7 +66,7 @@ class Wire:
     def send(self, act):
         """Connects and sends; whether that succeeded."""
         self.close()
-        exchange = Exchange(act.origin)
+        exchange = Exchange(act.origin, act.method, self.receive)
         self.exchanges.append(exchange)
         try:
             self.connect(act.origin)
@@ -62,7 +87,7 @@ class Wire:
 
     def reached(self, host, port):
         """A connection to the first address of a host that takes one; the time that is left is for all of them."""
-        found = socket.getaddrinfo(host, port, type=socket.SOCK_STREAM)
+        found = looked_up(host, port, self.left())
         for number, (family, kind, _, _, address) in enumerate(found, 1):
             one = socket.socket(family, kind)
             try:
@@ -89,10 +114,12 @@ class Wire:
         except OSError as error:
             self.fail(exchange, error, "reset")
             return None
-        exchange.answer += piece
-        if exchange.origin.startswith("http:") and is_tls_port(exchange.answer):
-            exchange.link = "tls-port"
+        exchange.kept.add(piece)
         return piece
+
+    def read(self):
+        """The same, as the engine reads it."""
+        return self.exchanges[-1].stream.read()
 
     def left(self):
         """How many seconds are left."""
@@ -103,15 +130,35 @@ class Wire:
 
     def fail(self, exchange, error, word, late="hang"):
         """`late` is the word where the time limit came."""
-        if exchange.link != "tls-port":
-            said = (getattr(error, name, None) for name in ("verify_message", "reason", "strerror"))
-            exchange.link, exchange.note = word_of(error, word, late), str(next(filter(None, said), error))
+        said = (getattr(error, name, None) for name in ("verify_message", "reason", "strerror"))
+        exchange.failure, exchange.said = word_of(error, word, late), str(next(filter(None, said), error))
         return False
 
     def close(self):
         if self.socket is not None:
             self.socket.close()
             self.socket = None
+
+
+def looked_up(host, port, seconds):
+    """The addresses of a host. The system may take longer than there is time: a thread asks it, and is left alone
+    then."""
+    found = []
+
+    def look_up():
+        try:
+            found.append(socket.getaddrinfo(host, port, type=socket.SOCK_STREAM))
+        except (OSError, ValueError) as error:
+            found.append(error)
+
+    asking = threading.Thread(target=look_up, daemon=True)
+    asking.start()
+    asking.join(seconds)
+    if not found:
+        raise TimeoutError("the name was not looked up until the time limit")
+    if isinstance(found[0], Exception):
+        raise found[0]
+    return found[0]
 
 
 def word_of(error, otherwise, late):
@@ -121,10 +168,10 @@ def word_of(error, otherwise, late):
     return next((word for kind, word in kinds if isinstance(error, kind)), otherwise)
 
 
-def is_tls_port(answer):
+def is_of_tls_port(answer):
     """Whether an answer to a plain request is that of a port which speaks TLS: a record of TLS, or a 400 that speaks of HTTPS, as
     nginx, Apache, Go and Tomcat word it."""
-    return answer.startswith(RECORD) or bool(BAD_REQUEST.match(answer) and TOLD_BY.search(answer))
+    return answer.startswith(answers.TLS_RECORDS) or bool(BAD_REQUEST.match(answer) and TOLD_BY.search(answer))
 
 
 class Page:
@@ -176,7 +223,7 @@ class Page:
 
     def read(self, fetch):
         """The next bytes, for the fetch to read; or that they ended or failed."""
-        piece = self.wire.receive()
+        piece = self.wire.read()
         if piece:
             return piece
         fetch.failed() if piece is None else fetch.ended()

@@ -48,7 +48,11 @@ class Peer:
         peer, _ = self.listener.accept()
         text = b""
         while b"\r\n\r\n" not in text:
-            text += peer.recv(4096)
+            piece = peer.recv(4096)
+            if not piece:  # who asked is gone
+                peer.close()
+                return
+            text += piece
         if self.kind == "hang":
             self.open.append(peer)
             return

@@ -8,6 +8,8 @@ import socket
 import struct
 import threading
 
+from commands.answers import Pieces
+
 PIECE = 65536
 CONNECT = 10  # seconds
 
@@ -17,9 +19,17 @@ class Connection:
 
     def __init__(self, address):
         self.address = address
-        self.request = b""
-        self.answer = b""
+        self.asked = Pieces()
+        self.answered = Pieces()
         self.link = "done"
+
+    @property
+    def request(self):
+        return self.asked.joined()
+
+    @property
+    def answer(self):
+        return self.answered.joined()
 
 
 class Relay:
@@ -70,7 +80,7 @@ class Relay:
             server = connect(connection, min(CONNECT, self.patience))
             if server is None:
                 peer.settimeout(self.patience)
-                connection.request = peer.recv(PIECE)
+                connection.asked.add(peer.recv(PIECE))
             else:
                 connection.link = Carrier(peer, server, connection, self.patience).run()
         except OSError:
@@ -135,14 +145,14 @@ class Carrier:
             data = self.peer.recv(PIECE)
         except OSError:  # hung up with something unread
             return False
-        self.connection.request += data
+        self.connection.asked.add(data)
         if data and not self.has_ended:
             self.server.sendall(data)
         return bool(data)
 
     def take_answer(self):
         data = self.server.recv(PIECE)
-        self.connection.answer += data
+        self.connection.answered.add(data)
         self.has_ended = not data
         if self.has_ended:
             self.selector.unregister(self.server)

@@ -1,0 +1,185 @@
+"""The words of bin/ask: its own, and those of curl, so that what a browser copies as cURL is taken as it is."""
+import argparse
+import re
+from urllib.parse import quote
+
+from commands import streams
+
+KINDS = ["image", "audio", "video", "style", "script", "font", "manifest"]
+POLICIES = ["no-referrer", "no-referrer-when-downgrade", "origin", "origin-when-cross-origin", "same-origin",
+            "strict-origin", "strict-origin-when-cross-origin", "unsafe-url"]
+# Words of curl that change nothing: redirects are followed, and what they print is printed, or is decoded, anyhow.
+WITHOUT_EFFECT = [("-i", "--include"), ("-s", "--silent"), ("-S", "--show-error"), ("-v", "--verbose"),
+                  ("-L", "--location"), ("-g", "--globoff"), ("--compressed",), ("--http1.0",), ("--http1.1",),
+                  ("--http2",), ("--http3",)]
+BODIES = [
+    (("-d", "--data", "--data-ascii"), "data", "TEXT|@FILE",
+     "the request's body, or its file; @- is standard input; several are joined by &"),
+    (("--data-binary",), "data", "TEXT|@FILE", "the same"),
+    (("--data-raw",), "data-raw", "TEXT", "the body, also where it begins with an @"),
+    (("--data-urlencode",), "data-urlencode", "TEXT", "the body, percent-encoded: of TEXT, =TEXT or NAME=TEXT"),
+]
+
+
+class Wrong(Exception):
+    """Words that no page could ask by, in a sentence."""
+
+
+def header(word):
+    name, colon, value = word.partition(":")
+    if not colon and word.endswith(";"):  # as curl writes an empty value
+        return word[:-1].strip(), ""
+    if not colon:
+        raise argparse.ArgumentTypeError("write it as 'Name: value'")
+    return name.strip(), value.strip()
+
+
+def connection(word):
+    found = re.fullmatch(r"(\[[^\]]+\]|[^:]+):(\d{1,5}):(\[[^\]]+\]|[^:]+):(\d{1,5})", word)
+    if not found:
+        raise argparse.ArgumentTypeError("write it as HOST:PORT:TO:PORT")
+    host, port, other, otherwise = found.groups()
+    if max(int(port), int(otherwise)) > 65535:
+        raise argparse.ArgumentTypeError("a port is at most 65535")
+    return (host.strip("[]"), int(port)), (other.strip("[]"), int(otherwise))
+
+
+def known_host(word):
+    host, comma, more = word.partition(",")
+    if not host or comma and more.lower() not in ("subdomains", "includesubdomains"):
+        raise argparse.ArgumentTypeError("write it as HOST, or as HOST,subdomains")
+    return host.lower(), bool(comma)
+
+
+def pasted_cookies(word):
+    if "=" not in word:
+        raise argparse.ArgumentTypeError("curl would take it for a file: write the cookies themselves, as 'N=V; M=W'")
+    return word
+
+
+def user(word):
+    if ":" not in word:
+        raise argparse.ArgumentTypeError("write it as USER:PASSWORD")
+    return word
+
+
+def jobs(word):
+    if not (word.isascii() and word.isdigit()) or not 1 <= int(word[:9]) <= 64:
+        raise argparse.ArgumentTypeError("a number from 1 to 64")
+    return int(word)
+
+
+def of_page(given):
+    given = given.add_argument_group("the page")
+    given.add_argument("--from", dest="page", metavar="PAGE",
+                       help="the URL of the page that asks (a page of URL's own origin)")
+    given.add_argument("--policy", metavar="CSP", action="append", default=[],
+                       help="a Content-Security-Policy of the page")
+    given.add_argument("--referrer-policy", choices=POLICIES)
+    given.add_argument("--cookie", metavar="N=V", action="append", default=[],
+                       help="a cookie that URL's origin has set")
+    given.add_argument("--hsts", metavar="HOST[,subdomains]", action="append", type=known_host, default=[],
+                       help="a host that is known to want https (HSTS)")
+    given.add_argument("--book", metavar="FILE",
+                       help="what is known of earlier calls: known hosts and the preflight cache")
+
+
+def of_request(given):
+    given = given.add_argument_group("what the page asks for")
+    given.add_argument("-X", "--method", "--request", metavar="M", help="GET where there is no body, else POST")
+    given.add_argument("-H", "--header", metavar="'N: V'", action="append", type=header, default=[])
+    for words, kind, form, told in BODIES:
+        given.add_argument(*words, dest="bodies", metavar=form, action="append", default=[], help=told,
+                           type=lambda text, kind=kind: (kind, text))
+    given.add_argument("--credentials", choices=["omit", "same-origin", "include"])
+    given.add_argument("--mode", choices=["cors", "no-cors", "same-origin"])
+    given.add_argument("--redirect", choices=["follow", "error", "manual"])
+    given.add_argument("--integrity", metavar="TEXT")
+    given.add_argument("--load", metavar="KIND", choices=KINDS, help="what an element loads: " + ", ".join(KINDS))
+    given.add_argument("--crossorigin", choices=["anonymous", "use-credentials"], help="the element's attribute")
+    given.add_argument("--twice", action="store_true",
+                       help="ask again: what the preflight cache and known hosts change")
+
+
+def of_curl(given):
+    given = given.add_argument_group(
+        "words of curl",
+        "a command that a browser copies as cURL is taken as it is, with the word curl or without; what a page could not "
+        "send is left out, and noted; -i, -s, -S, -v, -L, -g and --compressed change nothing")
+    given.add_argument("-b", dest="pasted", metavar="'N=V; ..'", action="append", type=pasted_cookies, default=[],
+                       help="the cookies that went along")
+    given.add_argument("-A", "--user-agent", metavar="TEXT", dest="agent")
+    given.add_argument("-e", "--referer", metavar="URL")
+    given.add_argument("-u", "--user", metavar="USER:PASSWORD", type=user, help="sent as the header Authorization")
+    given.add_argument("-I", "--head", action="store_true", help="the method HEAD")
+    given.add_argument("-G", "--get", action="store_true", help="put the data into the URL")
+    given.add_argument("-k", "--insecure", action="store_true", help="noted: it changes nothing for a page")
+    given.add_argument("--url", metavar="URL", action="append", default=[])
+    for words in WITHOUT_EFFECT:
+        given.add_argument(*words, dest="without_effect", action="store_true", help=argparse.SUPPRESS)
+
+
+def of_asking(given):
+    given = given.add_argument_group("how it is asked, and what is printed")
+    given.add_argument("--from-file", metavar="FILE", help="more URLs, one a line; - is standard input")
+    given.add_argument("--jobs", metavar="N", type=jobs, default=1, help="URLs side by side (1)")
+    given.add_argument("--timeout", metavar="S", type=streams.seconds, default=20,
+                       help="seconds for all of it, for each URL (20)")
+    given.add_argument("--connect-to", metavar="HOST:PORT:TO:PORT", action="append", type=connection, default=[],
+                       help="connect to another address in the place of a host and port")
+    printed = given.add_mutually_exclusive_group()
+    printed.add_argument("--brief", action="store_true", help="print the verdict alone")
+    printed.add_argument("--json", action="store_true", help="print JSON")
+    given.add_argument("--export", metavar="FILE", help="write a scenario that plays the same by scripted servers")
+    given.add_argument("--with-secrets", action="store_true", help="with its cookies and Authorization")
+
+
+def read(self, words):
+    """What the words say, as `given`; wrong words end the program with the status 2."""
+    parser = argparse.ArgumentParser(
+        prog=self, usage="%(prog)s URL.. [--from PAGE] [words]", allow_abbrev=False,
+        description="makes the fetch that a page would make, and says what came and why",
+        epilog="status: 0 read, 1 not read, 2 wrong words, 3 no connection or the time limit, 4 no verdict")
+    parser.add_argument("urls", metavar="URL", nargs="*")
+    for part in (of_page, of_request, of_curl, of_asking):
+        part(parser)
+    given = parser.parse_intermixed_args(words)
+    given.is_curl = given.urls[:1] == ["curl"]
+    given.urls = given.urls[given.is_curl:] + given.url
+    given.connect_to = dict(given.connect_to)
+    if not given.urls and given.from_file is None:
+        parser.error("name a URL")
+    if given.with_secrets and not given.export:
+        parser.error("--with-secrets is for --export")
+    try:
+        given.body = body_of(given.bodies)
+    except Wrong as wrong:
+        parser.error(str(wrong))
+    return given
+
+
+# ---- the body
+
+def body_of(bodies):
+    """The bytes of the request's body, of all words that name some, joined as curl does; None where there is none."""
+    return b"&".join(part_of(kind, text) for kind, text in bodies) if bodies else None
+
+
+def part_of(kind, text):
+    if kind == "data-urlencode":
+        return encoded(text)
+    if kind == "data-raw" or not text.startswith("@"):
+        return text.encode("utf-8", "surrogateescape")
+    try:
+        return streams.read(text[1:])
+    except OSError as error:
+        raise Wrong("--data: %s: %s" % (text[1:], error.strerror)) from None
+
+
+def encoded(text):
+    """What --data-urlencode makes of TEXT, =TEXT or NAME=TEXT."""
+    name, equals, value = text.partition("=")
+    if "@" in name:
+        raise Wrong("--data-urlencode %s: a file is not read here: write the text itself, as NAME=TEXT" % text)
+    name, value = (name + "=" if name else "", value) if equals else ("", text)
+    return (name + quote(value.encode("utf-8", "surrogateescape"), safe="")).encode("utf-8", "surrogateescape")

@@ -1,0 +1,99 @@
+"""What a scenario may be to make a command dear, and a call of bin/why: each row of COSTS does it, and says how many
+seconds it may take. Each is given what compares what came with what was wanted."""
+import json
+import os
+import statistics
+import subprocess
+
+from commands import asking, cases, doubts, json_text, running
+from commands.scenario import Scenario
+from commands.schema import Schema
+
+RUNS = 9
+MOST_OF_WHY = 0.12  # seconds of processor time
+
+
+def tree(data):
+    return json_text.read(json.dumps(data))
+
+
+def said(data):
+    """What bin/why says of a scenario."""
+    return asking.Said(json.dumps(data).encode("utf-8"), False, 20)
+
+
+# ---- scenarios
+
+def many_rules(compare):
+    """2,000 rules, and 1,000 requests that meet none of them."""
+    rules = [cases.rule(path="/x/%d" % number) for number in range(2000)]
+    compare("warnings of 2,000 rules", doubts.doubts(Scenario(tree(cases.scenario([], rules))), None, False), [])
+    found = said(cases.scenario({"repeat": 1000, "do": [cases.fetch()]}, rules))
+    compare("2,000 rules and 1,000 requests", {case.result.short() for case in found.told.cases}, {"12 CorsCheck"})
+
+
+def many_origins(compare):
+    """2,000 servers, 2,000 cookies, and 1,000 requests to origins that have neither."""
+    origins = ["https://h%d.test" % number for number in range(2000)]
+    servers = [{"origin": origin, "rules": []} for origin in origins]
+    script = [cases.fetch("https://h%d.test:8443/" % number) for number in range(1000)]
+    found = said(cases.scenario(script, servers=servers, cookies=[[origin, "a=1"] for origin in origins]))
+    compare("warnings of 2,000 origins", len(found.warnings), 2000)
+
+
+def equal_keys(compare):
+    text = '{"format": 1, "documents": [], %s}' % ",\n".join(['"now": 1'] * 40000)
+    compare("warnings of 40,000 equal keys", len(asking.Said(text.encode("utf-8"), False, 20).warnings), 39999)
+    compare("problems of 40,000 equal keys", Schema(asking.SCHEMA).check(json_text.read(text)), [])
+
+
+def long_numbers(compare):
+    for digits in (5000, 1000000):
+        try:
+            json_text.read("[%s]" % ("9" * digits))
+        except json_text.Fault as fault:
+            compare("the place of a number of %d digits" % digits, fault.place, 1)
+        else:
+            compare("a number of %d digits" % digits, "read", "refused")
+
+
+def nested_commands(compare):
+    """A wrong word in the deepest of 24 commands inside each other."""
+    script = [{"wait": "x"}]
+    for number in range(24):
+        script = [{"repeat": 1, "do": script}] if number % 3 == 0 else [{"if": ["ok"], "then": script}]
+    problems = Schema(asking.SCHEMA).check(tree(cases.scenario(script)))
+    compare("the place of a wrong word", [problem.place.count("/") for problem in problems], [53])
+
+
+# ---- a call of bin/why
+
+def processor_time(words):
+    """Of a command and of what it starts, in seconds."""
+    process = subprocess.Popen(words, stdin=subprocess.DEVNULL, stdout=subprocess.DEVNULL)
+    _, status, used = os.wait4(process.pid, 0)
+    process.returncode = status
+    if status:
+        raise OSError("%s ended with %d" % (" ".join(words), status))
+    return used.ru_utime + used.ru_stime
+
+
+def one_call(compare):
+    """At most 0.12 s, or on a slow machine four times what an empty python takes: of nine runs each the middle one. The
+    first run keeps what it compiles."""
+    words = [os.path.join(running.ROOT, "bin", "why"), os.path.join(running.ROOT, "gallery", "star-with-credentials")]
+    processor_time(words)
+    took = statistics.median(processor_time(words) for _ in range(RUNS))
+    empty = statistics.median(processor_time(["python3", "-c", "pass"]) for _ in range(RUNS))
+    is_cheap = took <= max(MOST_OF_WHY, 4 * empty)
+    compare("a call of bin/why, %.3f s of processor time, and an empty python, %.3f" % (took, empty), is_cheap, True)
+
+
+COSTS = [
+    ("2,000 rules of a server, and 1,000 requests that meet none", many_rules, 6),
+    ("2,000 servers and cookies, and 1,000 requests to others", many_origins, 6),
+    ("40,000 equal keys in an object", equal_keys, 9),
+    ("numbers of 5,000 and a million digits", long_numbers, 2),
+    ("commands inside each other, with a wrong word in the deepest", nested_commands, 2),
+    ("18 calls, nine of bin/why", one_call, 20),
+]

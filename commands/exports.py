@@ -1,0 +1,147 @@
+"""What bin/ask --export writes: a scenario that plays by scripted servers what real ones answered, without secrets."""
+import json
+import os
+import re
+
+from commands import answers, files
+from commands.ask_words import Wrong
+
+# A header of the document, which says nothing to a play: the mark of a file that may be written over.
+MARK = ["X-Made-By", "bin/ask --export"]
+LARGEST = 268435456
+SET_COOKIE = re.compile(r"(?im)^(set-cookie2?:[ \t]*)([^\r\n]*)")
+SCHEME_WORD = re.compile(r"^[!#$%&'*+\-.^_`|~0-9A-Za-z]+ +")
+
+
+def refuse_path(path):
+    """Refuses a file that --export did not write, before anything is asked."""
+    if os.path.islink(path):
+        raise Wrong("--export: %s is a symbolic link: name the file itself" % path)
+    if os.path.lexists(path) and not is_own(path):
+        raise Wrong("--export: %s is there, and --export did not write it: name another file, or remove it" % path)
+    if not os.access(os.path.dirname(path) or ".", os.W_OK):
+        raise Wrong("%s cannot be written" % path)
+
+
+def is_own(path):
+    """Whether it is a file with the mark of --export."""
+    if not os.path.isfile(path) or os.path.getsize(path) > LARGEST:
+        return False
+    try:
+        with open(path, "rb") as file:
+            return MARK in json.loads(file.read().decode("utf-8"))["documents"][0]["headers"]
+    except (OSError, ValueError, LookupError, TypeError, RecursionError):
+        return False
+
+
+class Export:
+    """The scenario of what was asked; `lacks` says in sentences what it does not have."""
+
+    def __init__(self, question, cases, exchanges):
+        self.question = question
+        self.lacks = []
+        self.hidden = []
+        body = question.body
+        if body is not None and body.decode("utf-8", "replace").encode() != body:
+            self.lacks.append("the body is no UTF-8, and a scenario has texts: it is another there")
+        if question.given.book:
+            self.lacks.append("the scenario begins with the known hosts of --hsts alone and an empty preflight cache, "
+                              "at time 0")
+        requests = [request for case in cases for request, _ in case.exchanges]
+        self.scenario = question.scenario(servers=self.servers(zip(requests, exchanges)))
+        self.scenario["documents"][0]["headers"].append(MARK)
+        if not question.given.with_secrets:
+            self.hide_words()
+        if self.hidden:
+            self.lacks.append("the values of %s are x, as long as they were; --with-secrets keeps them"
+                              % ", ".join(dict.fromkeys(self.hidden)))
+
+    def servers(self, exchanges):
+        rules, kept = {}, {}
+        for request, exchange in exchanges:
+            key = (request.origin, request.method, request.target)
+            if exchange.link not in ("done", "tls-port"):
+                self.lacks.append("the connection to %s failed, which a scripted server does not" % request.origin)
+            elif key not in kept:
+                kept[key] = exchange.answer
+                rules.setdefault(request.origin, []).append(self.rule_of(request, exchange))
+            elif kept[key] != exchange.answer:
+                self.lacks.append("%s %s was answered twice: the first answer is kept" % key[1:])
+        return [{"origin": origin, "rules": own} for origin, own in rules.items()]
+
+    def rule_of(self, request, exchange):
+        """The rule that gives the bytes that the engine was fed."""
+        name = "the answer to %s %s" % (request.method, request.target)
+        if exchange.stream.head is not None:
+            self.lacks.append(name + " stands there as it was decoded")
+        fed = exchange.fed
+        text = fed.decode("utf-8", "ignore")
+        if text.encode() != fed:
+            self.lacks.append(name + " has bytes that are no UTF-8: they are left out")
+        return {"method": request.method, "path": request.target, "raw": self.without_cookies(text)}
+
+    # ---- secrets
+
+    def without_cookies(self, text):
+        """An answer whose Set-Cookie lines have no values."""
+        if self.question.given.with_secrets:
+            return text
+        beginning = answers.Beginning()
+        beginning.add(text.encode()[:answers.MOST_HEAD + 1])
+        end = len(text.encode()[:beginning.head.end].decode()) if beginning.head else len(text)
+        head, count = SET_COOKIE.subn(lambda found: found.group(1) + masked_set_cookie(found.group(2)), text[:end])
+        self.hidden += ["Set-Cookie"] * (count > 0)
+        return head + text[end:]
+
+    def hide_words(self):
+        """Takes cookies and credentials out of what was asked."""
+        for pair in self.scenario.get("cookies", []):
+            pair[1] = masked_cookies(pair[1])
+            self.hidden.append("cookies")
+        options = next(iter(self.scenario["documents"][0]["script"][0].values()))
+        for pair in options.get("headers", []):
+            if pair[0].lower() in ("authorization", "proxy-authorization", "cookie"):
+                pair[1] = masked(pair[1])
+                self.hidden.append(pair[0])
+
+    def data(self):
+        return (json.dumps(self.scenario, indent=1, ensure_ascii=False) + "\n").encode("utf-8", "surrogatepass")
+
+    def write(self, path):
+        """What is to be said of it, in sentences."""
+        try:
+            refuse_path(path)
+        except Wrong as wrong:  # what came there meanwhile
+            return [str(wrong)]
+        failure = files.replace(path, self.data())
+        return [failure] if failure else ["%s: %s" % (path, one) for one in dict.fromkeys(self.lacks)]
+
+
+def masked(value):
+    """A value of credentials as long as it was; its scheme stays."""
+    scheme = SCHEME_WORD.match(value)
+    kept = scheme.group() if scheme else ""
+    return kept + placeholder(value[len(kept):])
+
+
+def masked_pair(text):
+    """A cookie, whose name stays where it has one."""
+    name, equals, value = text.partition("=")
+    if equals:
+        return name + equals + placeholder(value)
+    blanks = text[:len(text) - len(text.lstrip(" "))]
+    return blanks + placeholder(text[len(blanks):])
+
+
+def masked_cookies(text):
+    return ";".join(map(masked_pair, text.split(";")))
+
+
+def masked_set_cookie(text):
+    first, semicolon, attributes = text.partition(";")
+    return masked_pair(first) + semicolon + attributes
+
+
+def placeholder(text):
+    """As many bytes."""
+    return "x" * len(text.encode("utf-8", "surrogatepass"))

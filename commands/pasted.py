@@ -1,0 +1,171 @@
+"""What the words of bin/ask come to for a page: which of the headers a script can set, what a browser sends in the place
+of the others, and what a request that was copied as cURL says of its page."""
+import base64
+
+import fiorrudda
+
+from commands.ask_words import KINDS
+from commands.scenario import joined, origin_of
+
+OWN = "a browser sends its own"
+NONE = "a browser sends none"
+CONNECTION = "a browser says itself what its connection needs"
+PREFLIGHT = "a browser sends it with a preflight, where one is needed"
+CACHE = "a browser's cache adds it"
+# What a browser sends in the place of a header that a script cannot set, or that browsers add themselves.
+SENT = {
+    "accept-charset": NONE, "cookie2": NONE, "set-cookie": NONE, "date": NONE, "via": NONE, "expect": NONE,
+    "accept-encoding": "a browser names the codings that it decodes; here the request says identity",
+    "access-control-request-headers": PREFLIGHT, "access-control-request-method": PREFLIGHT,
+    "connection": CONNECTION, "keep-alive": CONNECTION, "content-length": CONNECTION, "transfer-encoding": CONNECTION,
+    "te": CONNECTION, "trailer": CONNECTION, "upgrade": CONNECTION,
+    "dnt": "a browser sends it where its user wants it",
+    "host": "a browser sends that of the URL; --connect-to leads it to another server",
+}
+ADDED = {
+    "user-agent": OWN + ", which asks for no preflight",
+    "priority": OWN,
+    "authority": "a browser sends the host of the URL",
+    "alt-used": OWN,
+    "x-client-data": OWN,
+    "upgrade-insecure-requests": "a browser sends it where it opens a page",
+}
+# The same where the request was copied from a browser: of others a script may have set them.
+COPIED = {"pragma": CACHE, "cache-control": CACHE, "if-none-match": CACHE, "if-modified-since": CACHE}
+NO_CORS_NAMES = ("accept", "accept-language", "content-language", "content-type")
+ABOUT_PAGE = ("origin", "referer")
+
+
+class Said:
+    """The request of a page: `url`, `method`, `headers`, `body`, `mode`, `credentials`, `load`, `crossorigin`; its
+    `page` (None where nothing says it) and its `cookies`; `notes` say what became of the rest."""
+
+    def __init__(self, given, url):
+        self.given = given
+        self.notes = []
+        self.url, self.body = url, given.body
+        if given.get and self.body is not None:
+            self.url, self.body = with_query(url, self.body), None
+        self.method = given.method or ("HEAD" if given.head else None)
+        self.mode, self.load, self.crossorigin = given.mode, given.load, given.crossorigin
+        self.pairs = pairs_of(given, self.body)
+        self.values = {name.lower(): value for name, value in self.pairs}
+        self.is_copied = "sec-fetch-mode" in self.values or "Mozilla/" in self.values.get("user-agent", "")
+        self.page = given.page or self.page_of_headers()
+        self.read_metadata()
+        self.headers = [pair for pair in self.pairs if self.is_kept(*pair)]
+        self.take_cookies()
+        if given.insecure:
+            self.note("-k changes nothing: a page cannot ask a server whose certificate is not trusted")
+
+    def note(self, sentence):
+        if sentence not in self.notes:
+            self.notes.append(sentence)
+
+    # ---- the page
+
+    def page_of_headers(self):
+        """The page that Origin and Referer name, or None."""
+        origin, referer = self.values.get("origin"), self.values.get("referer")
+        found = [referer] if referer and origin in (None, origin_of(referer)) else []
+        found += [origin + "/"] if origin else []
+        page = next((one for one in found if origin_of(one)), None)
+        names = " and ".join("`%s`" % name for name, _ in self.pairs if name.lower() in ABOUT_PAGE)
+        if page:
+            self.note("%s %s the page: --from %s" % (names, "name" if " and " in names else "names", page))
+        elif found:
+            self.note("%s is left out: it names no page of http or https" % names)
+        return page
+
+    # ---- what kind of request was copied
+
+    def read_metadata(self):
+        """What Sec-Fetch-Mode and Sec-Fetch-Dest say, where no word says it."""
+        mode, kind = self.values.get("sec-fetch-mode"), self.values.get("sec-fetch-dest")
+        if self.load or self.mode or mode is None:
+            return
+        if mode == "navigate":
+            self.note("the copied request opened a page, which is not played: it is asked as a script's fetch")
+        elif kind in KINDS and self.body is None and self.method in (None, "GET"):
+            self.load = kind
+            with_cookies = self.given.pasted or "cookie" in self.values
+            if mode == "cors" and kind not in ("font", "manifest"):
+                self.crossorigin = self.crossorigin or ("use-credentials" if with_cookies else "anonymous")
+            self.note("the copied request was that of an element: --load %s%s" % (
+                kind, " --crossorigin " + self.crossorigin if self.crossorigin else ""))
+        elif mode in ("no-cors", "same-origin"):
+            self.mode = mode
+            self.note("the copied request says so: --mode %s" % mode)
+
+    # ---- headers
+
+    def is_kept(self, name, value):
+        """Whether a script sets this header. Where it does not, that is noted, with what a browser sends."""
+        word = name.lower()
+        if word == "cookie":
+            return False
+        if word in ABOUT_PAGE:
+            if self.given.page:
+                self.note("`%s` is left out: --from names the page" % name)
+            return False
+        reason = self.reason_against(word, value)
+        if reason:
+            self.note("`%s` is left out: %s" % (name, reason))
+        return reason is None
+
+    def reason_against(self, word, value):
+        if word in ADDED:
+            return ADDED[word]
+        if self.is_copied and (word in COPIED or word == "accept" and not fiorrudda.is_safelisted(word, value)):
+            return COPIED.get(word, OWN)
+        if is_forbidden(word, value):
+            return "a browser sends it to proxies alone" if word.startswith("proxy-") else SENT.get(word, OWN)
+        if self.load and self.given.load is None:
+            return "an element sets no header"
+        if self.mode == "no-cors" and word not in NO_CORS_NAMES:
+            return "in mode no-cors a script sets %s alone" % ", ".join(NO_CORS_NAMES)
+        return None
+
+    # ---- cookies
+
+    def take_cookies(self):
+        """All cookies; those that were copied went along, so the request was one that takes credentials along."""
+        given = self.given
+        copied = [value for name, value in self.pairs if name.lower() == "cookie"]
+        if copied:
+            self.note("`Cookie` is taken as --cookie")
+        self.cookies = [*given.cookie, *given.pasted, *copied]
+        self.credentials = given.credentials
+        went_along = copied or given.pasted or given.is_curl and given.cookie
+        is_foreign = self.page is not None and origin_of(self.page) != origin_of(joined(self.url, self.page))
+        if went_along and is_foreign and not self.load and self.credentials is None:
+            self.credentials = "include"
+            self.note("the cookies went along to another origin, so it is asked with --credentials include")
+
+
+def is_forbidden(name, value):
+    """Whether no script can set it; what is no header at all is left to the engine, which says so."""
+    try:
+        return fiorrudda.is_forbidden_header(name, value)
+    except fiorrudda.FiorruddaError:
+        return False
+
+
+def pairs_of(given, body):
+    """All headers that the words name."""
+    pairs = list(given.header)
+    pairs += [("User-Agent", given.agent)] if given.agent is not None else []
+    pairs += [("Referer", given.referer)] if given.referer is not None else []
+    if given.user is not None:
+        secret = base64.b64encode(given.user.encode("utf-8", "surrogateescape")).decode("ascii")
+        pairs.append(("Authorization", "Basic " + secret))
+    if given.is_curl and body is not None and not any(name.lower() == "content-type" for name, _ in pairs):
+        pairs.append(("Content-Type", "application/x-www-form-urlencoded"))  # as curl does
+    return pairs
+
+
+def with_query(url, data):
+    """A URL with data in its query."""
+    base, mark, fragment = url.partition("#")
+    query = data.decode("utf-8", "surrogateescape")
+    return base + ("&" if "?" in base else "?") + query + mark + fragment
