@@ -365,9 +365,9 @@ def greater_limit(c):
 
 def a_server(c):
     """A server of the origin, with the rules of one of its host."""
-    host = host_of(c.request.origin)
-    near = next((one["rules"] for one in c.scenario.servers() if host_of(one["origin"]) == host), [{"status": 200}])
-    return [[edits.server(c.request.origin, near)]]
+    near = c.scenario.origins_by_host.get(host_of(c.request.origin))
+    rules = c.scenario.servers()[c.scenario.server_of(near[0])]["rules"] if near else [{"status": 200}]
+    return [[edits.server(c.request.origin, rules)]]
 
 
 def mended_head(c):
