@@ -181,7 +181,8 @@ class Answered:
         """What is to be said of a body that came coded, though the request said identity."""
         stream = exchange.stream
         if stream.is_opened:
-            yield "%s: the body came as %s all the same: it was decoded, as a browser does it%s" % (
+            yield "%s: the body came as %s all the same: it was decoded, as a browser does it; so Transfer-Encoding stands " \
+                "among the headers that are read here, in the place of Content-Encoding%s" % (
                 exchange.origin, ", ".join(stream.codings), "; " + stream.fault if stream.fault else "")
         if stream.lacks and any(case.result.number == verdicts.CODING for case in self.told.cases):
             packages = list(filter(None, map(PACKAGES.get, stream.lacks)))
@@ -193,7 +194,8 @@ class Answered:
         own, page = self.question.origin, self.question.page
         requests = [request for case in self.told.cases for request, _ in case.chain]
         if not requests:
-            return "no cookie was sent, since only a preflight was sent, or nothing"
+            only = "only a preflight was sent" if any(case.exchanges for case in self.told.cases) else "nothing was sent"
+            return "no cookie was sent, since " + only
         if any(play_text.header_of(request, "Cookie") for request in requests):
             is_same = fiorrudda.same_site(page, own) and urlsplit(page).scheme == urlsplit(own).scheme
             return None if is_same else (

@@ -16,6 +16,7 @@ from commands.scenario import joined, origin_of
 from commands.urls import host_of, is_address, is_trustworthy, scheme_of, secure
 
 ALGORITHMS = ("sha256", "sha384", "sha512")
+LIKE_CORS = re.compile(r"ac+es+-cont?rol-", re.I)  # a header of CORS, written right or wrong
 CHUNK_LINE = re.compile(rb"([0-9a-fA-F]{1,16})[^\r\n]*\r\n")
 REDIRECTS = (301, 302, 303, 307, 308)
 # Schemes that a browser loads by itself, and this engine does not.
@@ -595,6 +596,19 @@ class Case:
     # ---- what the table's texts say besides
 
     @property
+    def too_late(self):
+        """What is to be said of a known host whose URL was mixed content."""
+        host = host_of(self.url)
+        is_known = any(host == one["host"] or (one["subdomains"] and host.endswith("." + one["host"]))
+                       for one in self.scenario.data.get("hsts", []))
+        return "; that the host is a known one (HSTS) comes too late for this" if is_known else ""
+
+    @property
+    def or_plain(self):
+        """Whether the page may ask in plain instead."""
+        return "" if self.page_origin.startswith("https:") else ", or ask for http"
+
+    @property
     def asked_headers(self):
         return header_of(self.request, "Access-Control-Request-Headers") or ""
 
@@ -604,10 +618,11 @@ class Case:
 
     @property
     def hidden_names(self):
-        """What a script might miss: not what no script sees, and not what belongs to the connection."""
+        """What a script might miss: not what no script sees, not what belongs to the connection, and no misspelt header of
+        CORS."""
         never = {"set-cookie", "set-cookie2", "vary", "connection", "transfer-encoding", "date", "server", "keep-alive",
                  "strict-transport-security", "content-encoding", "x-content-type-options", "cross-origin-resource-policy"}
-        return list(dict.fromkeys(name for name in self.hidden if name.lower() not in never))
+        return list(dict.fromkeys(name for name in self.hidden if name.lower() not in never and not LIKE_CORS.match(name)))
 
     @property
     def hidden_by_cors(self):

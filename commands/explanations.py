@@ -165,7 +165,7 @@ POLICIES = [
         lambda c: c.kind == "script" and "'strict-dynamic'" in [word.lower() for word in c.directive[1]],
         "{c.policy} has `{c.directive_text}`: with 'strict-dynamic' a script that a parser inserted passes by its "
         "nonce or hash alone", "", "{change}", POLICY, changes.nonce_or_inserted),
-    Way("policy/nonce-differs", "4", lambda c: c.policy_nonces != [] and c.nonce != "",
+    Way("policy/nonce-differs", "4", lambda c: c.policy_nonces != [] and c.nonce not in ("", *c.policy_nonces),
         "{c.policy} has `{c.directive_text}`, and the element's nonce is `{c.nonce}`", "",
         "{change}", POLICY, changes.nonce_or_source),
     Way("policy/nonce-absent", "4", lambda c: c.policy_nonces != [],
@@ -225,7 +225,7 @@ BEFORE_SENDING = UNLOADED + [
         "{change}", MIXED, changes.ask_secure),
     Way("mixed/page", "3", always,
         "the page {c.page_origin} is secure, and {c.url}{c.where} is not, so nothing is sent to it", "",
-        "{change}; that the host is a known one (HSTS) comes too late for this", MIXED, changes.ask_secure),
+        "{change}{c.too_late}", MIXED, changes.ask_secure),
     *POLICIES,
     Way("same-origin/known-host", "5", lambda c: c.is_known_host and not c.is_redirected,
         "the host is a known one (HSTS), so the URL becomes https, which is another origin than {c.page_origin}; and the mode "
@@ -329,7 +329,7 @@ DIRECT = [
         "SSL_CERT_FILE", "../ask.md"),
     Way("link/no-tls", "24", lambda c: c.link == "no-tls",
         "{c.request.origin} was asked over TLS, and the handshake failed: it speaks none, or none that is accepted here", "",
-        "ask for http, or let the server speak TLS at this port", "../ask.md"),
+        "let the server speak TLS at this port{c.or_plain}", "../ask.md"),
 ]
 
 LINKS = [

@@ -41,6 +41,8 @@ def problem(text):
     if kind not in KINDS:
         meant = nearest(kind, KINDS)
         return 'nothing is loaded as "%s": write %s' % (kind, '"%s"' % meant if meant else "one of " + ", ".join(KINDS))
+    if re.search(r"\s", url):
+        return "a URL has no blanks: write %20 for one, and each URL in a text of its own"
     scheme = re.match(r"([A-Za-z][A-Za-z0-9+.-]*):", url)
     if scheme and scheme.group(1).lower() not in ("http", "https"):
         return 'no policy is asked here about "%s:": this engine loads http and https alone' % scheme.group(1)

@@ -74,4 +74,4 @@ def upgraded(case):
 def reported(case):
     """The report-only policies that it violates, each once."""
     found = dict.fromkeys((one.policy, one.directive) for one in case.fetch.of("violation") if not one.enforced)
-    return ["policy %d, which only reports, would refuse it (%s)" % one for one in found]
+    return ["policy %d, which only reports, reports it (%s)" % one for one in found]

@@ -23,7 +23,8 @@ def verdict(cases):
     if failed:
         return NO_ANSWER, "%s: %s" % ("no whole answer" if result.ending == "fault" else "no answer", told_of(case))
     if is_undecided(case):
-        return NO_VERDICT, "no verdict: %s" % (case.explanation.condition if case.explanation else result.short())
+        condition = case.explanation.condition if case.explanation else result.short()
+        return NO_VERDICT, condition if condition.startswith("no verdict") else "no verdict: " + condition
     verb = "load" if case.command.is_load else "read"
     if results.is_met("read", result) and result.ending != "cut":
         return READ, "the page would %s it: %s" % (verb, seen(case))
@@ -34,7 +35,8 @@ def is_undecided(case):
     result = case.result
     if result.is_fault:
         return False
-    return result.number == CODING or result.number == SCHEME and case.scheme.lower() in NOT_LOADED
+    return result.number == CODING or (
+        result.number == SCHEME and case.scheme.lower() in NOT_LOADED and not case.is_mixed_socket)
 
 
 def told_of(case):

@@ -156,10 +156,14 @@ def small_method(field):
 
 
 def star_with_others(field):
-    return "*" in field.items and field.headers.has_credentials
+    """A `*` alone: beside names it may be for requests without credentials."""
+    return set(field.items) == {"*"} and field.headers.has_credentials
 
 
 def authorization_under_star(field):
+    """Of a request with credentials another lint says that `*` allows no name."""
+    if field.headers.has_credentials:
+        return False
     asked = any("authorization" in ask.names for ask in field.headers.preflights)
     return "*" in field.items and asked and "authorization" not in [item.lower() for item in field.items]
 

@@ -224,11 +224,13 @@ def is_url(word):
 
 
 def insecure_source(word):
-    """What a page over https never loads, as it is written and as it should be."""
+    """What a page over https never loads so, as it is written and as it should be."""
     found = re.match(r"(http|ws):", word.lower)
     if not found or word.policy.headers.scheme != "https" or word.directive.name not in grammar.FETCH:
         return None
     if "strict-dynamic" in word.directive.inner or is_loopback(word.place):
+        return None
+    if word.policy.is_report_only:  # it is asked before an image becomes https
         return None
     return re.sub(r":80(?=/|$)", "", found.group(1) + "s" + word.text[len(found.group(1)):])
 
@@ -323,7 +325,8 @@ def no_word(word):
 
 URLS = [
     Lint("csp/http-on-https", "a source", insecure_source,
-         "a page over https loads nothing from `{it.text}`, which is mixed content", "write `{meant}`"),
+         "a page over https loads nothing over http, which is mixed content, and `{it.text}` says so",
+         "write `{meant}`"),
     Lint("csp/query-or-fragment", "a source", with_query,
          "`{it.text}` is no word of the grammar: a source has no query and no fragment", "write `{meant}`"),
     Lint("csp/wildcard-inside", "a source", wildcard_inside,

@@ -14,7 +14,7 @@ MOST_ASKS = 100
 MOST_TEXT = 1048576
 # The tables of lints, and what the name of a header has in it that one of them may look at.
 TOPICS = {"csp": "^.?c(?!ross).*(?:sec|pol)|^x-(?:content-s|webkit)", "csp_words": None,
-          "cors": "access|allow|^cross-origin-r", "hsts": "^.?strict|^hsts$|transport-sec", "referrer": "^ref",
+          "cors": "ac+es+-|-control-|allow|expose|^cross-origin-r", "hsts": "^.?strict|^hsts$|transport-sec", "referrer": "^ref",
           "integrity": None}
 
 
