@@ -596,6 +596,18 @@ class Case:
     # ---- what the table's texts say besides
 
     @property
+    def is_next_unanswered(self):
+        """Whether the scenario's server has no rule for the request at the URL to which it is redirected."""
+        if self.is_net or self.next_url is None:
+            return False
+        server = self.scenario.server_of(origin_of(self.next_url))
+        target = urlsplit(self.next_url)
+        path = (target.path or "/") + ("?" + target.query if target.query else "")
+        rules = [] if server is None else self.scenario.servers()[server]["rules"]
+        return not any(rule.get("method", self.method) in (self.method, "OPTIONS") and rule.get("path", path) == path
+                       for rule in rules)
+
+    @property
     def too_late(self):
         """What is to be said of a known host whose URL was mixed content."""
         host = host_of(self.url)

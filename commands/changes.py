@@ -81,9 +81,11 @@ def cors_or_next_url(c):
 
 
 def next_url_or_cors(c):
-    """Of another host the server is to answer first: it may be that of a login."""
+    """Of another host the server is to answer first: it may be that of a login; and where the scenario answers nothing
+    there."""
     both = next_url(c) + cors(c)
-    return both if host_of(c.next_url) == host_of(c.asked_url) else both[::-1]
+    is_better = host_of(c.next_url) == host_of(c.asked_url) and not c.is_next_unanswered
+    return both if is_better else both[::-1]
 
 
 def no_rule(c):

@@ -168,8 +168,6 @@ POLICIES = [
     Way("policy/nonce-differs", "4", lambda c: c.policy_nonces != [] and c.nonce not in ("", *c.policy_nonces),
         "{c.policy} has `{c.directive_text}`, and the element's nonce is `{c.nonce}`", "",
         "{change}", POLICY, changes.nonce_or_source),
-    Way("policy/nonce-absent", "4", lambda c: c.policy_nonces != [],
-        "{c.policy} has `{c.directive_text}`, and the element has no nonce", "", "{change}", POLICY, changes.nonce_or_source),
     Way("policy/hash-absent", "4", lambda c: c.kind == "script" and csp.hashes(c.directive[1]) != []
         and csp.digests(c.command.options["integrity"]) != [],
         "{c.policy} has `{c.directive_text}`, and a digest of the element's integrity text is not among its hashes", "",
@@ -200,6 +198,8 @@ POLICIES = [
     Way("policy/host", "4", lambda c: c.near_fault == "host",
         "{c.policy} has `{c.near_text}`, and not `{c.near_written}`, as {c.policy_url} wants it: a host matches itself "
         "alone, and one behind `*.` what is below it", "", "{change}", WORDS, changes.rewrite),
+    Way("policy/nonce-absent", "4", lambda c: c.policy_nonces != [] and c.nonce == "",
+        "{c.policy} has `{c.directive_text}`, and the element has no nonce", "", "{change}", POLICY, changes.nonce_or_source),
     Way("policy/after-redirect", "4", lambda c: c.violated.redirected,
         "{c.policy} has `{c.directive_text}`, and no word of it matches {c.policy_url}, where the redirect leads", "",
         "{change}; the path of a word does not count after a redirect", POLICY, changes.add_source),
