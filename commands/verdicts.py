@@ -22,6 +22,8 @@ def verdict(cases):
     result = case.result
     if failed:
         return NO_ANSWER, "%s: %s" % ("no whole answer" if result.ending == "fault" else "no answer", told_of(case))
+    if is_undecided(case) and result.number == SCHEME and any(one.enforced for one in case.violations):
+        return NOT_READ, "the page would not read it: %s" % case.policy_verdict.partition(" ")[2]
     if is_undecided(case):
         condition = case.explanation.condition if case.explanation else result.short()
         return NO_VERDICT, condition if condition.startswith("no verdict") else "no verdict: " + condition
