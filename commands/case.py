@@ -322,7 +322,7 @@ class Case:
 
     @cached_property
     def policies(self):
-        """Of each whether it is enforced, and its directives."""
+        """For each whether it is enforced, and its directives."""
         return csp.numbered(self.document.get("headers", []))
 
     @cached_property
@@ -511,7 +511,7 @@ class Case:
         return max(self.digests, default="sha384")
 
     def digest(self, name):
-        """Of the body that came, as integrity texts have it."""
+        """The digest of the body that came, as integrity texts have it."""
         return base64.b64encode(hashlib.new(name, self.answer.body()).digest()).decode("ascii")
 
     @property
@@ -597,15 +597,13 @@ class Case:
 
     @property
     def is_next_unanswered(self):
-        """Whether the scenario's server has no rule for the request at the URL to which it is redirected."""
-        if self.is_net or self.next_url is None:
-            return False
+        """Whether the scenario has no rule for the request at the URL to which it is redirected."""
         server = self.scenario.server_of(origin_of(self.next_url))
-        target = urlsplit(self.next_url)
-        path = (target.path or "/") + ("?" + target.query if target.query else "")
-        rules = [] if server is None else self.scenario.servers()[server]["rules"]
-        return not any(rule.get("method", self.method) in (self.method, "OPTIONS") and rule.get("path", path) == path
-                       for rule in rules)
+        if self.is_net or server is None:
+            return not self.is_net
+        request, parts = copy.copy(self.request), urlsplit(self.next_url)
+        request.target = (parts.path or "/") + ("?" + parts.query if parts.query else "")
+        return self.scenario.rule_of(server, request) is None
 
     @property
     def too_late(self):

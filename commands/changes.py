@@ -81,8 +81,8 @@ def cors_or_next_url(c):
 
 
 def next_url_or_cors(c):
-    """Of another host the server is to answer first: it may be that of a login; and where the scenario answers nothing
-    there."""
+    """The server answers first where the other URL is of another host, as that of a login, or where the scenario answers
+    nothing there."""
     both = next_url(c) + cors(c)
     is_better = host_of(c.next_url) == host_of(c.asked_url) and not c.is_next_unanswered
     return both if is_better else both[::-1]

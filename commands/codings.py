@@ -27,7 +27,7 @@ class Broken(Exception):
 
 
 class Inflate:
-    """Of gzip, and of deflate: with the head of zlib or without one, as some servers send it."""
+    """Decodes gzip, and deflate with the head of zlib or without one, as some servers send it."""
 
     def __init__(self, is_gzip):
         self.machine = zlib.decompressobj(16 + zlib.MAX_WBITS) if is_gzip else None

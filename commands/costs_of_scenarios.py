@@ -69,7 +69,7 @@ def nested_commands(compare):
 # ---- a call of bin/why
 
 def processor_time(words):
-    """Of a command and of what it starts, in seconds."""
+    """That of a command and of what it starts, in seconds."""
     process = subprocess.Popen(words, stdin=subprocess.DEVNULL, stdout=subprocess.DEVNULL)
     _, status, used = os.wait4(process.pid, 0)
     process.returncode = status

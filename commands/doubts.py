@@ -109,7 +109,7 @@ def rules_beside(scenario, play):
 
 
 def beside(scenario, server, targets, met):
-    """Of a server's rules that were not met those whose path is nearly the target of a request."""
+    """A server's rules that were not met, and whose path is nearly the target of a request."""
     nodes = rule_nodes(scenario, server)
     for index, rule in enumerate(scenario.servers()[server]["rules"]):
         target = targets.get(folded(rule.get("path", "")))

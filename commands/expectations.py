@@ -19,7 +19,7 @@ VIOLATION = re.compile(r"(?:([0-9]{1,2}) )?(?:(enforce|report) )?(\S+)(?: (\S+))
 
 
 class Outcome:
-    """Of one test: its name, lines for each thing that came otherwise, and what is warned of."""
+    """What came of one test: its name, lines for each thing that came otherwise, and what is warned of."""
 
     def __init__(self, name, lines, warnings=()):
         self.name = name

@@ -548,7 +548,7 @@ def explain(case):
 
 
 def explain_policies(case):
-    """Of each violated policy what to change in it, but of the one that the explanation is about."""
+    """What to change in each violated policy, except the one that the explanation is about."""
     way = case.explanation.way if case.explanation else ""
     own = [case.violated] if way.startswith("policy/") else []
     found = []

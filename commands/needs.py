@@ -30,7 +30,7 @@ def merged(value, more, as_names, known=None):
 
 
 class Needs:
-    """Of a request to a URL: `names` are those of its headers that ask for a preflight. `asked` and `own` are the heads
+    """What a request to a URL needs: `names` are those of its headers that ask for a preflight. `asked` and `own` are the heads
     that answered the preflight and the request, where they came, and `always` says that there is a preflight
     whatever the method and the names are."""
 

@@ -4,24 +4,18 @@ import base64
 
 import fiorrudda
 
+from commands import guards
 from commands.ask_words import KINDS
 from commands.scenario import joined, origin_of
 
 OWN = "a browser sends its own"
-NONE = "a browser sends none"
-CONNECTION = "a browser says itself what its connection needs"
-PREFLIGHT = "a browser sends it with a preflight, where one is needed"
 CACHE = "a browser's cache adds it"
-# What a browser sends in the place of a header that a script cannot set, or that browsers add themselves.
-SENT = {
-    "accept-charset": NONE, "cookie2": NONE, "set-cookie": NONE, "date": NONE, "via": NONE, "expect": NONE,
+# What is said otherwise here of a header that no script may set: guards.py has the others.
+HERE = {
     "accept-encoding": "a browser names the codings that it decodes; here the request says identity",
-    "access-control-request-headers": PREFLIGHT, "access-control-request-method": PREFLIGHT,
-    "connection": CONNECTION, "keep-alive": CONNECTION, "content-length": CONNECTION, "transfer-encoding": CONNECTION,
-    "te": CONNECTION, "trailer": CONNECTION, "upgrade": CONNECTION,
-    "dnt": "a browser sends it where its user wants it",
     "host": "a browser sends that of the URL; --connect-to leads it to another server",
 }
+# Headers that browsers add themselves.
 ADDED = {
     "user-agent": OWN + ", which asks for no preflight",
     "priority": OWN,
@@ -32,7 +26,6 @@ ADDED = {
 }
 # The same where the request was copied from a browser: of others a script may have set them.
 COPIED = {"pragma": CACHE, "cache-control": CACHE, "if-none-match": CACHE, "if-modified-since": CACHE}
-NO_CORS_NAMES = ("accept", "accept-language", "content-language", "content-type")
 ABOUT_PAGE = ("origin", "referer")
 
 
@@ -119,11 +112,11 @@ class Said:
         if self.is_copied and (word in COPIED or word == "accept" and not fiorrudda.is_safelisted(word, value)):
             return COPIED.get(word, OWN)
         if is_forbidden(word, value):
-            return "a browser sends it to proxies alone" if word.startswith("proxy-") else SENT.get(word, OWN)
+            return HERE.get(word) or guards.in_place(word, value) or OWN
         if self.load and self.given.load is None:
             return "an element sets no header"
-        if self.mode == "no-cors" and word not in NO_CORS_NAMES:
-            return "in mode no-cors a script sets %s alone" % ", ".join(NO_CORS_NAMES)
+        if self.mode == "no-cors" and word not in guards.NO_CORS:
+            return "in mode no-cors a script sets %s alone" % ", ".join(guards.NO_CORS)
         return None
 
     # ---- cookies

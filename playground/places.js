@@ -26,7 +26,7 @@ function rangeOfPlace(root, place) {
   return node === null ? null : { start: node.start, end: shownEnd(node) };
 }
 
-// Of an object or a list its first sign is enough to be marked.
+// The first sign of an object or a list is enough to be marked.
 function shownEnd(node) {
   return node.kind === "object" || node.kind === "list" ? node.start + 1 : node.end;
 }

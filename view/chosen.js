@@ -70,7 +70,7 @@ function countsOfPicture(text) {
   return ran.stdout.trim() + ran.stderr;
 }
 
-// Of each lane there are two texts, of each step its label, and below the refusal its meaning and three said lines.
+// Each lane has two texts, each step its label, and below the refusal its meaning and three said lines.
 function checkPicture(compare, good) {
   compare("the picture", countsOfPicture(made.toldPlay(good)), 3 * 2 + 10 + 4 + " " + (2 + 10) + " 0");
   compare("the picture of hostile texts", countsOfPicture(made.hostilePlay()), 3 * 2 + 6 + " " + (2 + 6) + " 0");

@@ -14,7 +14,7 @@ const NOTE = 18;
 const BELOW_NOTE = 4;
 const LONGEST = 2000;
 
-// Of each kind of step the word that begins its label, the colour, and how its line is dashed.
+// For each kind of step the word that begins its label, the colour, and how its line is dashed.
 const LOOKS = {
   begin: { word: "begin", color: "ink" },
   end: { word: "end", color: "soft" },

@@ -155,17 +155,16 @@ def small_method(field):
     return next((method for method in meant if method not in field.items), None)
 
 
-def star_with_others(field):
-    """A `*` alone: beside names it may be for requests without credentials."""
+def star_alone(field):
+    """Beside names a `*` may be for requests without credentials."""
     return set(field.items) == {"*"} and field.headers.has_credentials
 
 
 def authorization_under_star(field):
-    """Of a request with credentials another lint says that `*` allows no name."""
-    if field.headers.has_credentials:
-        return False
+    """The list with Authorization. Where credentials go along, another lint speaks of a `*` that is alone."""
     asked = any("authorization" in ask.names for ask in field.headers.preflights)
-    return "*" in field.items and asked and "authorization" not in [item.lower() for item in field.items]
+    is_missed = "*" in field.items and asked and "authorization" not in [item.lower() for item in field.items]
+    return is_missed and not star_alone(field) and ", ".join([*field.items, "Authorization"])
 
 
 def set_cookie(field):
@@ -209,16 +208,16 @@ VALUES = [
     *lists(METHODS), *lists(HEADERS), *lists(EXPOSED),
     OfAnswer("cors/method-in-small-letters", METHODS, small_method,
              "the case of a method counts, and `{meant}` is listed in other letters", "write `{meant}`"),
-    OfAnswer("cors/methods-star-with-credentials", METHODS, star_with_others,
+    OfAnswer("cors/methods-star-with-credentials", METHODS, star_alone,
              "`*` is no wildcard for requests with credentials, and allows them no method",
              "list the methods"),
-    OfAnswer("cors/headers-star-with-credentials", HEADERS, star_with_others,
+    OfAnswer("cors/headers-star-with-credentials", HEADERS, star_alone,
              "`*` is no wildcard for requests with credentials, and allows them no header",
              "list the names"),
-    OfAnswer("cors/exposed-star-with-credentials", EXPOSED, star_with_others,
+    OfAnswer("cors/exposed-star-with-credentials", EXPOSED, star_alone,
              "`*` exposes nothing to a request with credentials", "list the names"),
     OfAnswer("cors/authorization-under-star", HEADERS, authorization_under_star,
-             "`*` does not allow Authorization, which a page sends here", "write `*, Authorization`"),
+             "`*` does not allow Authorization, which a page sends here", "write `{meant}`"),
     OfAnswer("cors/set-cookie-exposed", EXPOSED, set_cookie, "no script ever sees `{meant}`", "take it out"),
     OfAnswer("cors/max-age-no-number", AGE, no_number, "`{meant}` is no number of seconds",
              "write digits alone, such as `600`, and send one"),

@@ -53,7 +53,7 @@ def quoted_value(field):
 
 
 def widened(field):
-    """Of commas that are meant for semicolons: the directive that would widen the default-src of another policy."""
+    """The directive that would widen the default-src of another policy, where a comma is meant for a semicolon."""
     if len(field.policies) < 2 or any(len(policy.directives) != 1 for policy in field.policies):
         return None
     first = [policy.directives[0] for policy in field.policies]
