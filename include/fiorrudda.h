@@ -1,5 +1,8 @@
 // Fiorrudda, a browser's fetch engine that is proved, for C. Written by embed/header from the exports: do not edit.
-// docs/embedding.md says what is proved of each call.
+// docs/embedding.md says what is proved of each call, and docs/TRUST.md what that rests on.
+//
+// A code other than FIORRUDDA_OK and FIORRUDDA_NO is no answer, neither yes nor no: test for the one of the two that
+// gives leave, which docs/embedding.md lists.
 //
 // A text is a pointer and a length in bytes, of any bytes. A pointer is never null; with length 0 it may point anywhere.
 // Nothing is kept of what was lent to a call, and two things that are lent to one call do not overlap, unless both are

@@ -30,7 +30,8 @@ Description: fetch engine of a browser, to try, and a CORS server
  fetchplay plays documents' fetches against scripted or real HTTP/1.1 servers
  and prints each step. cspreport plays them against scripted servers and sends
  the reports of what their policies forbid. corsserve is a CORS server that
- answers by a table. All three are proved to meet their contracts.
+ answers by a table. playaudit says whether a text is such a play. What each
+ does below its main function is proved to meet its contract.
  .
  The package has a gallery of questions with plays that answer them, a page that
  draws a play, and a playground in the browser.
