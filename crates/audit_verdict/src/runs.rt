@@ -13,8 +13,6 @@ use script_events::{Ending, Transcript, Transcripts};
 use script_scenarios::Scenario;
 use std::alloc::Global;
 use std::snapshot::Snapshot;
-use std::sync::Wait;
-use std::thread::Threads;
 use value_text::OutOfMemory;
 
 /// What the runs of all documents come to.
@@ -27,8 +25,7 @@ pub(crate) enum Runs {
 }
 
 // The run of one document over its entries, where it makes just the calls of these entries.
-fn run_one<R: Threads + Wait + Sync>(
-    rt: &R,
+fn run_one(
     alloc: Global,
     scenario: &Scenario,
     number: u32,
@@ -45,7 +42,6 @@ fn run_one<R: Threads + Wait + Sync>(
     let mut pass = TapePass::new(alloc, number, history, opening);
     let mut link = SimLink::new(scenario);
     let transcript = drive(
-        rt,
         alloc,
         scenario,
         number,
@@ -65,8 +61,7 @@ fn run_one<R: Threads + Wait + Sync>(
 }
 
 // The runs of all documents over their entries, one after the other.
-pub(crate) fn run_all<R: Threads + Wait + Sync>(
-    rt: &R,
+pub(crate) fn run_all(
     alloc: Global,
     scenario: &Scenario,
     history: &[Entry],
@@ -80,7 +75,7 @@ pub(crate) fn run_all<R: Threads + Wait + Sync>(
     let mut transcripts = Transcripts::new(alloc);
     for number in 0..count {
         let number = number as u32;
-        match run_one(rt, alloc, scenario, number, history, opening)? {
+        match run_one(alloc, scenario, number, history, opening)? {
             Some(transcript) => transcripts.push(transcript)?,
             None => return Ok(Runs::Stops(number)),
         }

@@ -19,8 +19,6 @@ use script_events::{Ending, Events, Transcript};
 use script_runs::Running;
 use script_scenarios::{Document, Scenario};
 use std::alloc::Global;
-use std::sync::Wait;
-use std::thread::Threads;
 use value_requests::Client;
 use value_text::{Bytes, OutOfMemory};
 
@@ -36,8 +34,8 @@ fn ended_by(played: Result<Option<Ending>, OutOfMemory>) -> Ending
 }
 
 // A document's script from the beginning to its ending, over a wire on which nothing is to come.
-fn play_script<R: Threads + Wait + Sync, S: Share, L: Link>(
-    lent: &Lent<'_, R, S>,
+fn play_script<S: Share, L: Link>(
+    lent: &Lent<'_, S>,
     number: u32,
     key: Bytes,
     document: &Document,
@@ -78,8 +76,7 @@ fn play_script<R: Threads + Wait + Sync, S: Share, L: Link>(
 }
 
 // A document's run, to its ending, where memory was not refused before it began.
-fn run_document<R: Threads + Wait + Sync, S: Share, L: Link>(
-    rt: &R,
+fn run_document<S: Share, L: Link>(
     alloc: Global,
     scenario: &Scenario,
     number: u32,
@@ -107,7 +104,6 @@ fn run_document<R: Threads + Wait + Sync, S: Share, L: Link>(
     let key = client.key.copy(alloc)?;
     let mut wire = Wire::new(alloc, link)?;
     let lent = Lent {
-        rt,
         alloc: &alloc,
         share,
         client: &client,
@@ -126,8 +122,7 @@ fn run_document<R: Threads + Wait + Sync, S: Share, L: Link>(
 /// What the transcript shows is the document's run over a tape of what the world answers, as with `drive_fetch`. At
 /// another ending than `Memory` nothing is to come over the link, where it tells it. At `Memory` what was shown begins
 /// such a run, the calls made are those on the way, an answer may be read in part, and key and clock may be any.
-pub fn drive<R: Threads + Wait + Sync, S: Share, L: Link>(
-    rt: &R,
+pub fn drive<S: Share, L: Link>(
     alloc: Global,
     scenario: &Scenario,
     document: u32,
@@ -150,7 +145,7 @@ pub fn drive<R: Threads + Wait + Sync, S: Share, L: Link>(
     ensures pass { KeepsPass S.account (S.belongs share.now) most_calls pass.old pass.new }
 {
     let one = scenario.documents.at(document as usize);
-    match run_document(rt, alloc, scenario, document, one, base, share, pass, link) {
+    match run_document(alloc, scenario, document, one, base, share, pass, link) {
         Ok(transcript) => transcript,
         Err(OutOfMemory) => Transcript {
             document,

@@ -19,8 +19,7 @@ use std::{mem, thread};
 use value_text::{Bytes, Items, OutOfMemory};
 
 // A document, in its row.
-fn play_row<R: Threads + Wait + Sync, S: Share, L: Link>(
-    rt: &R,
+fn play_row<S: Share, L: Link>(
     alloc: Global,
     scenario: &Scenario,
     number: u32,
@@ -36,7 +35,6 @@ fn play_row<R: Threads + Wait + Sync, S: Share, L: Link>(
 {
     let seat = &mut row.seating;
     row.transcript = drive(
-        rt,
         alloc,
         scenario,
         number,
@@ -77,7 +75,7 @@ where
                 (seat_of S.account L.told) scenario.now number row.now }
             ensures { RowCameTo (S.belongs share.entry.now) (seat_of S.account L.told) (over_link L.serves)
                 scenario.entry.now base number row.entry.now row.exit.now }
-        { play_row(rt, alloc, scenario, number as u32, base, share, row) },
+        { play_row(alloc, scenario, number as u32, base, share, row) },
     );
 }
 

@@ -7,9 +7,8 @@ use Rattle.book_calls.specs.declared.book.Book.{Book}
 use Rattle.book_calls.specs.declared.entry.Entry.{Entry}
 use Rattle.book_calls.specs.declared.op.Op.{Op}
 use Rattle.book_calls.specs.Book.{after}
-use Rattle.book_calls.specs.Entries.{LegalFrom, book_after, entries_of, entry}
+use Rattle.book_calls.specs.Entries.{HasTurnsFrom, LegalFrom, book_after, entries_of, entry}
 use Rattle.book_calls.proofs.EntryLemmas.{book_after-append, entries_of-append}
-use Rattle.play_definitions.specs.Plays.{HasTurnsFrom}
 use Rattle.report_play.specs.Plays.{AreInOrderFrom}
 use Rattle.report_play.specs.Private.Delivered.{numbered}
 

@@ -8,8 +8,8 @@ use Rattle.std.proofs.lemmas.List.Elements.{All-nil, All-cons, All-head, All-tai
 use Rattle.value_lemmas.proofs.Lists.{AllByRecursion-append}
 use Rattle.book_calls.specs.declared.book.Book.{Book}
 use Rattle.book_calls.specs.declared.entry.Entry.{Entry}
-use Rattle.book_calls.specs.Entries.{Legal, book_after, entries_of}
-use Rattle.play_definitions.specs.Plays.{HasTurnsFrom, IsPlay, IsPlayOver, IsTranscript, RunsOver, Way, by_rules, opening_book}
+use Rattle.book_calls.specs.Entries.{HasTurnsFrom, Legal, book_after, entries_of}
+use Rattle.play_definitions.specs.Plays.{IsPlay, IsPlayOver, IsTranscript, RunsOver, Way, by_rules, opening_book}
 use Rattle.play_definitions.specs.Plays.{outside_on, way_to_servers}
 use Rattle.link_traits.specs.Links.{IsForetold, LinkTold}
 use Rattle.link_routes.specs.declared.routes.Route.{Route}

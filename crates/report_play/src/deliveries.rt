@@ -12,8 +12,6 @@ use report_delivery::{Delivered, deliver};
 use script_events::{Transcript, Transcripts};
 use script_scenarios::Scenario;
 use std::alloc::Global;
-use std::sync::Wait;
-use std::thread::Threads;
 use value_text::{Items, OutOfMemory};
 
 // The reports of one document, the book after them, and the entries of their calls.
@@ -25,8 +23,7 @@ struct Delivery {
 }
 
 // Delivers the reports of one document over its link, with the book for themselves.
-fn deliver_over<R: Threads + Wait + Sync, L: Link>(
-    rt: &R,
+fn deliver_over<L: Link>(
     alloc: Global,
     scenario: &Scenario,
     transcript: &Transcript,
@@ -40,7 +37,7 @@ fn deliver_over<R: Threads + Wait + Sync, L: Link>(
     ensures book { IfOk result (λ one. one.book ≡ book_after book one.entries) }
 {
     let (share, mut pass) = SoloBook::new(alloc, book);
-    let delivered = deliver(rt, alloc, scenario, transcript, &share, &mut pass, link)?;
+    let delivered = deliver(alloc, scenario, transcript, &share, &mut pass, link)?;
     let (book, entries) = share.close(pass);
     Ok(Delivery {
         delivered,
@@ -73,8 +70,7 @@ fn append_entries(
 
 // Delivers the reports of each document over its link, in order of documents. The book goes from one to the next, and
 // the history grows by the entries of each.
-pub(crate) fn deliver_all<R: Threads + Wait + Sync, L: Link + Drop>(
-    rt: &R,
+pub(crate) fn deliver_all<L: Link + Drop>(
     alloc: Global,
     scenario: &Scenario,
     transcripts: &Transcripts,
@@ -92,7 +88,7 @@ pub(crate) fn deliver_all<R: Threads + Wait + Sync, L: Link + Drop>(
     let mut number = 0usize;
     for mut link in links {
         let transcript = transcripts.at(number);
-        let one = deliver_over(rt, alloc, scenario, transcript, book, &mut link)?;
+        let one = deliver_over(alloc, scenario, transcript, book, &mut link)?;
         append_entries(history, transcript.document, &one.entries)?;
         reports.push(one.delivered)?;
         book = one.book;

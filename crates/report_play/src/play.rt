@@ -9,7 +9,7 @@ ghost use Rattle.script_scenarios.specs.Valid.{IsValid};
 
 use crate::deliveries::deliver_all;
 use book_calls::History;
-use book_turns::{Closed, TurnBook, TurnPass};
+use book_turns::{Closed, TurnBook, TurnPass, TurnShare};
 use link_traits::Link;
 use play_definitions::Seating;
 use play_documents::play_all;
@@ -67,12 +67,13 @@ fn play_seated<R: Threads + Wait + Sync, L: Link + Send + Drop>(
     ensures { IfOk result (λ reported. WasReported (over_link L.serves) L.told scenario.entry.now seats.items
         reported.transcripts reported.reports reported.history) }
 {
+    let share = TurnShare { rt, book: &book };
     let transcripts = play_all(
         rt,
         alloc,
         scenario,
         scenario.now,
-        &book,
+        &share,
         SCRIPTED_THREADS,
         &mut seats,
     )?;
@@ -81,7 +82,7 @@ fn play_seated<R: Threads + Wait + Sync, L: Link + Send + Drop>(
     }
     let links = links_of(alloc, seats, &mut passes)?;
     let Closed { book, mut history } = book.close(passes);
-    let reports = deliver_all(rt, alloc, scenario, &transcripts, links, book, &mut history)?;
+    let reports = deliver_all(alloc, scenario, &transcripts, links, book, &mut history)?;
     Ok(Reported {
         transcripts,
         reports,
