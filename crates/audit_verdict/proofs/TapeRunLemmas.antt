@@ -180,12 +180,6 @@ unused-run law scenario number history document new transcript at same over is u
 
 -- ---- a document
 
-pub document-at : (documents : List Document) (number : ℕ) → number < length documents
-    → (document : Document) × (slice_get documents number ≡ Some document)
-document-at [] number below = absurd (omega (arith, below))
-document-at (document ∷ documents) zero below = (document, refl)
-document-at (document ∷ documents) (suc number) below = document-at documents number (omega (arith, below))
-
 -- over what a pass has seen that was new, with a link that was, the document comes to its transcript
 pub came-to : (scenario : Scenario) (number : ℕ) (opening : Book) (history : List Entry) (document : Document)
     (old new : Tape) (first link : SimState) (transcript : Transcript) → old ≡ fresh_tape number opening history

@@ -1,6 +1,6 @@
 -- A call on the one pass.
 use Rattle.std.proofs.Common.{◌≡◌, ℕ, suc, ◌+◌, ◌<◌, Bool, true, false, List, [], ◌∷◌, ◌++◌, refl, sym, ap, ◌∙◌}
-use Rattle.std.proofs.Common.{append_assoc, arith, cond, drop, eq-eqb, length, subst, Result, Ok, Err, IfOk, OnOk, OnErr}
+use Rattle.std.proofs.Common.{append_assoc, arith, drop, length, subst, Result, Ok, Err, IfOk, OnOk, OnErr}
 use Rattle.std.proofs.lemmas.List.{append-nil, drop-append-le, length-append}
 use Rattle.value_text.specs.declared.memory.OutOfMemory.{OutOfMemory}
 use Rattle.book_calls.specs.declared.book.Book.{Book}
@@ -11,7 +11,7 @@ use Rattle.book_calls.specs.declared.op.Reply.{Reply}
 use Rattle.book_hosts.specs.Hosts.{matches_host}
 use Rattle.book_preflights.specs.Cache.{covers}
 use Rattle.book_calls.specs.Book.{after, reply, yes_or_no}
-use Rattle.book_calls.specs.Entries.{AllTurnsBelow, Extends, HasTurnsFrom, Legal, book_after, entries_of, entry}
+use Rattle.book_calls.specs.Entries.{AllTurnsBelow, Extends, HasTurnsFrom, Legal, book_after, entry}
 use Rattle.book_calls.specs.Ops.{is_answer, is_question}
 use Rattle.book_calls.specs.Private.Solo.{IsSolo, solo_of}
 use Rattle.book_calls.specs.Solo.{AreOf}
@@ -77,14 +77,6 @@ of-snoc : (document : ℕ) (entries : List Entry) (e : Entry) → AreOf document
     → AreOf document (entries ++ e ∷ [])
 of-snoc document [] e all is = (is, tt)
 of-snoc document (x ∷ xs) e all is = (all.0, of-snoc document xs e all.1 is)
-
--- they are all that the document has of them
-pub entries_of-all : (document : ℕ) (entries : List Entry) → AreOf document entries
-    → entries_of document entries ≡ entries
-entries_of-all document [] all = refl
-entries_of-all document (e ∷ es) all =
-    ap (λ (b : Bool). cond b (e ∷ entries_of document es) (entries_of document es)) (eq-eqb e.document document all.0)
-    ∙ ap (λ (l : List Entry). e ∷ l) (entries_of-all document es all.1)
 
 -- ---- a call
 

@@ -1,6 +1,6 @@
 -- What a document's run over a link to its scenario's servers comes to, and the documents of such runs.
 use Rattle.std.proofs.Common.{◌≡◌, ◌≢◌, ℕ, ◌+◌, ◌<◌, List, [], ◌∷◌, ◌++◌, length, map, take, ap, sym, subst, ◌∙◌}
-use Rattle.std.proofs.Common.{arith, add-one, length-take, Option, Some, None}
+use Rattle.std.proofs.Common.{arith, add-one, length-take, refl, suc, zero, Option, Some, None}
 use Rattle.std.proofs.Math.Seq.{take-suc}
 use Rattle.std.proofs.lemmas.List.{map_push}
 use Rattle.std.proofs.lemmas.Option.{get_or_from_slice_get, slice_get_within}
@@ -60,6 +60,13 @@ served-run scenario number history document left left' link transcript numbered 
             servers ran);
       };
     }
+
+-- a document of this number
+pub document-at : (documents : List Document) (number : ℕ) → number < length documents
+    → (document : Document) × (slice_get documents number ≡ Some document)
+document-at [] number below = absurd (omega (arith, below))
+document-at (document ∷ documents) zero below = (document, refl)
+document-at (document ∷ documents) (suc number) below = document-at documents number (omega (arith, below))
 
 -- the ways of these documents to the servers
 abbrev pub ways_of : Scenario → List Document → List (Way (List Server))

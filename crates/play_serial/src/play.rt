@@ -71,13 +71,17 @@ pub fn play_in_turn(alloc: Global, scenario: &Scenario) -> Result<Played, OutOfM
     ensures played { IfOk result (λ played. IsPlay scenario.entry.now played.transcripts played.history) }
     ensures has_text { IfOk result (λ played. HasText played.transcripts) }
 {
+    let book = opened(alloc, scenario.hosts.as_slice())?;
+    let history = History::new(alloc);
+    let transcripts = Transcripts::new(alloc);
     let mut so_far = SoFar {
-        book: opened(alloc, scenario.hosts.as_slice())?,
-        history: History::new(alloc),
-        transcripts: Transcripts::new(alloc),
+        book,
+        history,
+        transcripts,
     };
     for number in 0..scenario.documents.len() {
-        so_far = play_next(alloc, scenario, number as u32, so_far)?;
+        let number = number as u32;
+        so_far = play_next(alloc, scenario, number, so_far)?;
     }
     Ok(Played {
         transcripts: so_far.transcripts,

@@ -81,12 +81,12 @@ fn play_seated<R: Threads + Wait + Sync, L: Link + Send + Drop>(
         return Err(OutOfMemory);
     }
     let links = links_of(alloc, seats, &mut passes)?;
-    let Closed { book, mut history } = book.close(passes);
-    let reports = deliver_all(alloc, scenario, &transcripts, links, book, &mut history)?;
+    let Closed { book, history } = book.close(passes);
+    let all = deliver_all(alloc, scenario, &transcripts, links, book, history)?;
     Ok(Reported {
         transcripts,
-        reports,
-        history,
+        reports: all.reports,
+        history: all.history,
     })
 }
 

@@ -1,6 +1,7 @@
 use Rattle.std.proofs.Common.{ap, arith, ◌<◌}
 use Rattle.book_calls.specs.Solo.{Solo}
-use Rattle.book_calls.proofs.SoloLemmas.{entries_of-all, kind-of, solo_extends, solo_next}
+use Rattle.book_calls.proofs.EntryLemmas.{entries_of-all}
+use Rattle.book_calls.proofs.SoloLemmas.{kind-of, solo_extends, solo_next}
 use Rattle.book_calls.proofs.solo.SoloBookShare.call.Goals as goal
 
 pub invariant_of-pass : goal.invariant_of-pass
