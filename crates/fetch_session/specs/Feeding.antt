@@ -1,5 +1,5 @@
 -- What bytes of an answer come to for a fetch that reads them, and what the end of the answer and a failure do.
-use Rattle.std.specs.Prelude.{◌≡◌, ℕ, ◌-◌, ◌^◌, Bool, true, false, length, min, Option, Some, None}
+use Rattle.std.specs.Prelude.{◌≡◌, ◌⊎◌, ℕ, ◌-◌, ◌^◌, Bool, true, false, length, min, Option, Some, None}
 use Rattle.value_text.specs.Texts.{Text}
 use Rattle.fetch_acts.specs.declared.act.Act.{Act}
 use Rattle.fetch_acts.specs.declared.act.Act.TheVariants.{ReadBody, ReadHead, Send}
@@ -104,13 +104,12 @@ count_of (end.Cut count) = count
 count_of (end.Whole bytes) = min (length bytes) (2 ^ 32 - 1)
 count_of _ = 0
 
--- What a failure comes to while a body is read of which these bytes came: the end that they decide; where they decide
--- none, the body broke off after as many bytes as came.
+-- What a failure comes to while a body is read of which these bytes came: the end that they decide; or they decide
+-- none, and the body broke off after as many bytes as it would have, had the answer ended there.
 abbrev pub FailsReading : Framing → ℕ → Text → Input → Type 0
-FailsReading how limit bytes (BodyIs (end.Fault count)) =
-    IsOpen how limit bytes × (count ≡ count_of (body_end how limit bytes))
-FailsReading how limit bytes (BodyIs end) = IsDecided how limit bytes end
-FailsReading how limit bytes input = ⊥
+FailsReading how limit bytes input =
+    ((last : BodyEnd) × IsDecided how limit bytes last × (input ≡ BodyIs last))
+    ⊎ (IsOpen how limit bytes × (input ≡ BodyIs (end.Fault (count_of (body_end how limit bytes)))))
 
 -- what it comes to where the connection fails here
 abbrev pub FailsAt : Option Act → Standing → Input → Type 0
