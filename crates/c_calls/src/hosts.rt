@@ -1,5 +1,5 @@
 // The book, and the hosts that it knows.
-ghost use Rattle.std.specs.Prelude.{◌≡◌, ◌≢◌, None, Some};
+ghost use Rattle.std.specs.Prelude.{◌≡◌, ◌≢◌, Some};
 ghost use Rattle.c_calls.specs.Calls.{done, known_host, note_host};
 ghost use Rattle.c_calls.specs.Sts.{IsSts};
 ghost use Rattle.book_calls.specs.Book.{empty};
@@ -11,14 +11,14 @@ use c_rules::{is_known_host, note_field};
 use std::alloc::Global;
 
 /// Makes an empty book in a handle: no known HSTS hosts (RFC 6797, section 8), and an empty CORS-preflight cache
-/// (Fetch, section 4.9). What the handle held is freed first, also where memory is refused. Threads that share a book
-/// hold a lock of their own around each call that is given it, this one too.
+/// (Fetch, section 4.9). What the handle held is freed. Threads that share a book hold a lock of their own around each
+/// call that is given it, this one too.
 ///
-/// `OK` or `OUT_OF_MEMORY`.
+/// `OK` or `OUT_OF_MEMORY`. Except for `OK` the handle holds what it held.
 #[unsafe(no_mangle)]
 pub extern "C" fn fiorrudda_book(alloc: Global, book: &mut Handle) -> u32
     ensures ok { result ≡ OK → book.new.held ≡ Some (Thing.Book empty) }
-    ensures out_of_memory { result ≢ OK → (result ≡ OUT_OF_MEMORY) × (book.new.held ≡ None) }
+    ensures out_of_memory { result ≢ OK → (result ≡ OUT_OF_MEMORY) × (book.new.held ≡ book.old.held) }
 {
     book.fill(alloc, Thing::Book(Book::new(alloc)))
 }

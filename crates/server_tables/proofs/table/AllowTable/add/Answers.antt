@@ -2,8 +2,8 @@ use Rattle.std.proofs.Common.{length, ap, not, sym, ◌∙◌}
 use Rattle.std.specs.Map.{lookup}
 use Rattle.server_tables.specs.Private.Places.{is_key, place_of}
 use Rattle.server_tables.proofs.PlaceLemmas.{none-got, placed-known, placed-new, some-got}
-use Rattle.server_tables.proofs.table.AllowTable.with.Goals as goal
-use Rattle.server_tables.proofs.table.AllowTable.with.Goals.{then-is_none+in_ok-origin+in_ok-insert, else-is_none}
+use Rattle.server_tables.proofs.table.AllowTable.add.Goals as goal
+use Rattle.server_tables.proofs.table.AllowTable.add.Goals.{then-is_none+in_ok-origin+in_ok-insert, else-is_none}
 
 pub invariant_of-result : goal.invariant_of-result
 invariant_of-result c = elim c.if-is_none.branch [
