@@ -55,6 +55,9 @@ extern "C" {
 // No request can be made of what is asked for; `fiorrudda_fetch` tells why.
 #define FIORRUDDA_NO_REQUEST 11u
 
+// A host is no domain as a URL has it, or a localhost name: it is never known.
+#define FIORRUDDA_NOT_A_HOST 12u
+
 // No policy: the default one, strict-origin-when-cross-origin, counts.
 #define FIORRUDDA_REFERRER_DEFAULT 0u
 
@@ -850,19 +853,20 @@ uint32_t fiorrudda_book(fiorrudda_handle *book);
 uint32_t fiorrudda_sts(const uint8_t *field, size_t field_len, uint64_t *age, uint32_t *subdomains);
 
 // Has a book note what the value of a Strict-Transport-Security field of a host says (RFC 6797, section 8.1), at a
-// time in seconds since any fixed moment. The host is the domain of a URL, in lower case: no IP address and no
-// localhost name, which is not looked at. The field came over https. Threads that share the book hold a lock of their
-// own around the call, as around each that is given the book.
+// time in seconds since any fixed moment. The host is the domain of a URL, in lower case. The field came over https.
+// Threads that share the book hold a lock of their own around the call, as around each that is given the book.
 //
 // FIORRUDDA_OK where the field says something; FIORRUDDA_NO where it is to be ignored; FIORRUDDA_WRONG_HANDLE;
+// FIORRUDDA_NOT_A_HOST of an IP address, a localhost name, a capital letter, or what is no domain;
 // FIORRUDDA_TOO_LATE; FIORRUDDA_OUT_OF_MEMORY. The book is as it was but for FIORRUDDA_OK.
 uint32_t fiorrudda_note_host(fiorrudda_handle *book, const uint8_t *host, size_t host_len, const uint8_t *field, size_t field_len, uint64_t now);
 
 // Whether a host is a known HSTS host of a book at a time in seconds (RFC 6797, section 8.2): http URLs of it are to
-// be asked by https. The host is the domain of a URL, in lower case: no IP address and no localhost name. Threads
-// that share the book hold a lock of their own around the call, as around each that is given the book.
+// be asked by https. The host is the domain of a URL, in lower case. Threads that share the book hold a lock of their
+// own around the call, as around each that is given the book.
 //
-// FIORRUDDA_OK where it is; FIORRUDDA_NO; FIORRUDDA_WRONG_HANDLE; FIORRUDDA_TOO_LATE; FIORRUDDA_OUT_OF_MEMORY.
+// FIORRUDDA_OK where it is; FIORRUDDA_NO; FIORRUDDA_WRONG_HANDLE; FIORRUDDA_NOT_A_HOST, as of `fiorrudda_note_host`;
+// FIORRUDDA_TOO_LATE; FIORRUDDA_OUT_OF_MEMORY.
 uint32_t fiorrudda_known_host(fiorrudda_handle *book, const uint8_t *host, size_t host_len, uint64_t now);
 
 // Writes the text of a book, which `fiorrudda_book_of_text` reads back as the same book, so that what it knows lasts

@@ -24,11 +24,11 @@ pub extern "C" fn fiorrudda_book(alloc: Global, book: &mut Handle) -> u32
 }
 
 /// Has a book note what the value of a Strict-Transport-Security field of a host says (RFC 6797, section 8.1), at a
-/// time in seconds since any fixed moment. The host is the domain of a URL, in lower case: no IP address and no
-/// localhost name, which is not looked at. The field came over https. Threads that share the book hold a lock of their
-/// own around the call, as around each that is given the book.
+/// time in seconds since any fixed moment. The host is the domain of a URL, in lower case. The field came over https.
+/// Threads that share the book hold a lock of their own around the call, as around each that is given the book.
 ///
-/// `OK` where the field says something; `NO` where it is to be ignored; `WRONG_HANDLE`; `TOO_LATE`; `OUT_OF_MEMORY`.
+/// `OK` where the field says something; `NO` where it is to be ignored; `WRONG_HANDLE`; `NOT_A_HOST` of an IP address, a
+/// localhost name, a capital letter, or what is no domain; `TOO_LATE`; `OUT_OF_MEMORY`.
 /// The book is as it was but for `OK`.
 #[unsafe(no_mangle)]
 pub extern "C" fn fiorrudda_note_host(
@@ -51,10 +51,10 @@ pub extern "C" fn fiorrudda_note_host(
 }
 
 /// Whether a host is a known HSTS host of a book at a time in seconds (RFC 6797, section 8.2): http URLs of it are to
-/// be asked by https. The host is the domain of a URL, in lower case: no IP address and no localhost name. Threads that
-/// share the book hold a lock of their own around the call, as around each that is given the book.
+/// be asked by https. The host is the domain of a URL, in lower case. Threads that share the book hold a lock of their
+/// own around the call, as around each that is given the book.
 ///
-/// `OK` where it is; `NO`; `WRONG_HANDLE`; `TOO_LATE`; `OUT_OF_MEMORY`.
+/// `OK` where it is; `NO`; `WRONG_HANDLE`; `NOT_A_HOST`, as of `fiorrudda_note_host`; `TOO_LATE`; `OUT_OF_MEMORY`.
 #[unsafe(no_mangle)]
 pub extern "C" fn fiorrudda_known_host(
     alloc: Global,

@@ -36,3 +36,6 @@ pub const NOT_AWAITED: u32 = 10;
 
 /// No request can be made of what is asked for; `fiorrudda_fetch` tells why.
 pub const NO_REQUEST: u32 = 11;
+
+/// A host is no domain as a URL has it, or a localhost name: it is never known.
+pub const NOT_A_HOST: u32 = 12;

@@ -1,26 +1,17 @@
 -- What it comes to where a fetch asks the book.
-use Rattle.std.specs.Prelude.{◌≡◌, ◌&&◌, ◌^◌, ◌⊎◌, Bool, false, nat_le, nat_lt, Option, Some, None}
+use Rattle.std.specs.Prelude.{◌≡◌, ◌⊎◌, Bool, false, Option, Some, None}
 use Rattle.fetch_acts.specs.declared.act.Act.{Act}
 use Rattle.fetch_acts.specs.declared.act.Act.TheVariants.{Ask}
 use Rattle.fetch_acts.specs.declared.act.Input.{Input}
 use Rattle.fetch_acts.specs.declared.act.Input.TheVariants.{Replied, Told}
 use Rattle.book_calls.specs.Book.{after, reply}
 use Rattle.book_calls.specs.declared.book.Book.{Book}
-use Rattle.book_calls.specs.declared.op.Op.{Op}
 use Rattle.book_calls.specs.declared.op.Reply.{Reply}
-use Rattle.book_calls.specs.declared.op.Op.TheVariants.{Match, Note, Covers, Learn, Clear}
+use Rattle.book_calls.specs.Ops.{is_in_range}
 use Rattle.fetch_session.specs.Sessions.{Goes, act_of}
 use Rattle.fetch_session.specs.Standings.{Standing, first_act}
 use Rattle.fetch_session.specs.declared.session.Went.{Went}
 use Rattle.fetch_session.specs.declared.session.Went.TheVariants as went
-
--- the operation is in range, as a book asks it to be
-abbrev pub is_in_range : Op → Bool
-is_in_range (Match host now) = nat_lt now (2 ^ 48)
-is_in_range (Note host sts now) = nat_lt now (2 ^ 48) && nat_lt sts.age (2 ^ 48)
-is_in_range (Covers question now) = nat_lt now (2 ^ 48)
-is_in_range (Learn lesson now) = nat_lt now (2 ^ 48) && nat_le lesson.age 7200
-is_in_range (Clear key origin url now) = nat_lt now (2 ^ 48)
 
 -- the act asks the book, in range
 abbrev pub asks_in_range : Option Act → Bool

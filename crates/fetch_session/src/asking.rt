@@ -1,29 +1,13 @@
 // The shared book is asked.
-ghost use Rattle.std.specs.Prelude.{◌≡◌, ◌↔◌, IfOk, IsTrue, None, OnErr, OnOk};
-ghost use Rattle.book_calls.specs.Ops.{InRange};
+ghost use Rattle.std.specs.Prelude.{◌≡◌, None};
 ghost use Rattle.fetch_session.specs.Asking as spec;
 ghost use Rattle.fetch_session.specs.Asking.{BookAfter};
 ghost use Rattle.fetch_session.specs.Sessions.{act_of, standing_of};
 
 use crate::session::{Session, Waiting, Went};
-use book_calls::{Book, Op, Reply};
+use book_calls::{Book, Reply};
 use fetch_acts::{Act, Input};
 use std::alloc::Global;
-
-// The first time, and the first age, that a book does not have.
-const LATEST: u64 = 281_474_976_710_656;
-
-// Whether an operation is in range: its time and a noted age are below 2^48, and a lesson's age is at most 7,200.
-fn is_in_range(op: &Op) -> bool
-    ensures value { result ≡ spec.is_in_range op.now }
-    ensures range { IsTrue result ↔ InRange op.now }
-{
-    match op {
-        Op::Match(_, now) | Op::Covers(_, now) | Op::Clear(_, _, _, now) => *now < LATEST,
-        Op::Note(_, sts, now) => *now < LATEST && sts.age < LATEST,
-        Op::Learn(lesson, now) => *now < LATEST && lesson.age <= 7_200,
-    }
-}
 
 /// What a call of the book came to: how the call went, and what the book replied, if it did what it was asked.
 #[derive(Clone, Copy, Debug, PartialEq, Eq)]
@@ -45,7 +29,7 @@ impl Session {
         ensures { result ≡ spec.asks (standing_of self.now) }
     {
         match self.act() {
-            Some(Act::Ask(op)) => is_in_range(op.get()),
+            Some(Act::Ask(op)) => op.get().is_in_range(),
             _ => false,
         }
     }

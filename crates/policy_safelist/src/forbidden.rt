@@ -79,9 +79,8 @@ fn has_forbidden_method(methods: &BytesList) -> bool
     false
 }
 
-// Whether a name and a value are a forbidden request-header (Fetch, section 2.2.2, "forbidden
-// request-header").
-pub(crate) fn is_forbidden_header(
+/// Whether a name and a value are a forbidden request-header (Fetch, section 2.2.2, "forbidden request-header").
+pub fn is_forbidden_header(
     alloc: Global,
     name: &[u8],
     value: &[u8],

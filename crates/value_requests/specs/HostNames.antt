@@ -1,12 +1,12 @@
--- The known HSTS hosts that a scenario may have (RFC 6797, section 8.1.1): domains as URLs have them.
-use Rattle.std.specs.Prelude.{◌&&◌, Bool, not, ◌++◌, codes, Option, Some, None}
+-- Hosts that may be known HSTS hosts (RFC 6797, section 8.1.1): domains as URLs have them.
+use Rattle.std.specs.Prelude.{◌&&◌, Bool, false, not, ◌++◌, codes, Option, Some, None}
 use Rattle.std.specs.Prelude.{option_and_then}
 use Rattle.url.specs.Host.{domain_of}
 use Rattle.url.specs.Parts.{Parts, nonempty_host}
 use Rattle.value_origins.specs.Names.{is_local_name}
 use Rattle.value_text.specs.Texts.{Text}
 use Rattle.value_text.specs.Mime.{is_text}
-use Rattle.value_requests.specs.Urls.{url_of_text}
+use Rattle.value_requests.specs.Urls.{url_of_text, utf8_text}
 
 -- the http URL of a host
 abbrev pub http_url_of : Text → Option Parts
@@ -20,3 +20,11 @@ domain_in url = option_and_then domain_of (nonempty_host url)
 -- port and a capital letter are no part of such a text; a last dot may be.
 abbrev pub is_host_name : Text → Bool
 is_host_name host = not (is_local_name host) && is_text host (option_and_then domain_in (http_url_of host))
+
+-- bytes are one, where they are UTF-8
+abbrev pub is_host_text : Option Text → Bool
+is_host_text None = false
+is_host_text (Some host) = is_host_name host
+
+abbrev pub are_host_name : Text → Bool
+are_host_name bytes = is_host_text (utf8_text bytes)
