@@ -117,7 +117,7 @@ is-sound law bytes play is =
         holds = of.holds;
         text_is = is.1;
       };
-      isolated = law by_rules scenario scenario.now (ways_to_servers scenario) (ways_to_servers scenario)
+      alone = law by_rules scenario scenario.now (ways_to_servers scenario) (ways_to_servers scenario)
           ran.transcripts of.history made;
     }
 

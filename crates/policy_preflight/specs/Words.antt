@@ -1,7 +1,7 @@
 -- The words of other crates of which these definitions speak, each brought in once.
 pub use Rattle.std.specs.List.{find, join_with_byte, list_all, list_any}
 pub use Rattle.std.specs.Str.{str_eq_ignore_ascii_case}
-pub use Rattle.policy_checks.specs.CorsCheck.{passes_cors_check}
+pub use Rattle.policy_checks.specs.CorsCheck.{passes_check, passes_cors_check}
 pub use Rattle.policy_checks.specs.OriginHeader.{referrer_value}
 pub use Rattle.policy_checks.specs.PermittedNames.{preflight_view}
 pub use Rattle.policy_checks.specs.RequestOrigins.{serialized_request_origin}
