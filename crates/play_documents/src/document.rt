@@ -110,7 +110,6 @@ fn run_document<S: Share, L: Link>(
         policies: &policies,
         cookies: &scenario.cookies,
         limit: scenario.body_limit,
-        documents: scenario.documents.len(),
     };
     Ok(play_script(&lent, number, key, document, base, &mut wire, pass, link))
 }

@@ -162,7 +162,6 @@ pub fn drive_fetch<S: Share, L: Link>(
         cookies,
         limit: body_limit,
         // a fetch by itself shares the room for filled texts with none
-        documents: 1,
     };
     let mut player = Player {
         lent: &lent,

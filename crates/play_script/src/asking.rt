@@ -36,7 +36,7 @@ fn requested<S>(
     if is_plain(init) {
         return new_request(*lent.alloc, init, lent.client);
     }
-    let filled = filled_init(*lent.alloc, lent.documents, last, init)?;
+    let filled = filled_init(*lent.alloc, last, init)?;
     new_request(*lent.alloc, &filled, lent.client)
 }
 
@@ -56,7 +56,7 @@ fn requested_load<S>(
     if is_plain_load(init) {
         return new_load(*lent.alloc, init, lent.client);
     }
-    let filled = filled_load(*lent.alloc, lent.documents, last, init)?;
+    let filled = filled_load(*lent.alloc, last, init)?;
     new_load(*lent.alloc, &filled, lent.client)
 }
 

@@ -5,7 +5,7 @@ use Rattle.script_commands.specs.Pieces.{pieces_behind}
 use Rattle.script_commands.specs.Templates.{filled, placed}
 use Rattle.script_filling.specs.Results.{lent_result, value_of}
 use Rattle.script_filling.proofs.FillingLemmas.{size_of}
-use Rattle.script_filling.proofs.filling.fill_url.Given as goal
+use Rattle.script_filling.proofs.filling.fill_first.Given as goal
 
 -- what was filled, and the pieces that are left
 abbrev pub invariant-loop-rest : goal.invariant-loop-rest
