@@ -4,7 +4,7 @@ ghost use Rattle.std.specs.List.{list_any};
 ghost use Rattle.policy_safelist.specs.Forbidden as spec;
 
 use std::alloc::Global;
-use value_headers::split_value;
+use value_lists::split_value;
 use value_text::{BytesList, OutOfMemory, eq_fold, is_among_fold};
 
 // The forbidden methods.
