@@ -7,6 +7,7 @@ ghost use Rattle.audit_verdict.specs.Private.Runs as spec;
 use audit_replay::{TapePass, TapeShare};
 use book_calls::{Book, Entry};
 use play_documents::drive;
+use play_fetch::OverLink;
 use play_isolation::law_same_calls;
 use play_servers::SimLink;
 use script_events::{Ending, Transcript, Transcripts};
@@ -42,6 +43,7 @@ fn run_one(
     let mut pass = TapePass::new(alloc, number, history, opening);
     let mut link = SimLink::new(scenario);
     let transcript = drive(
+        &OverLink,
         alloc,
         scenario,
         number,

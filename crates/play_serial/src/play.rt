@@ -8,6 +8,7 @@ ghost use Rattle.script_scenarios.specs.Valid.{IsValid};
 use book_calls::{Book, History, SoloBook};
 use play_definitions::Played;
 use play_documents::drive;
+use play_fetch::OverLink;
 use play_seats::opened;
 use play_servers::SimLink;
 use script_events::{Ending, Transcripts};
@@ -43,6 +44,7 @@ fn play_next(
     let (share, mut pass) = SoloBook::resumed(book, history, number);
     let mut link = SimLink::new(scenario);
     let transcript = drive(
+        &OverLink,
         alloc,
         scenario,
         number,

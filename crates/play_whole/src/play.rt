@@ -15,6 +15,7 @@ use link_routes::Links;
 use play_definitions::{Played, Seating};
 use play_documents::play_all;
 use play_faults::{law_faults_counted, law_faults_shown};
+use play_fetch::OverLink;
 use play_seats::{open_play, unseat};
 use play_servers::SimLinks;
 use script_events::has_text;
@@ -49,7 +50,9 @@ fn play_seated<R: Threads + Wait + Sync, N: Links>(
     ensures has_text { IfOk result (λ played. HasText played.transcripts) }
 {
     let share = TurnShare { rt, book: &book };
-    let played = play_all(rt, alloc, scenario, base, &share, threads, &mut seats);
+    let played = play_all(
+        rt, &OverLink, alloc, scenario, base, &share, threads, &mut seats,
+    );
     unseat(seats, links, &mut passes);
     let Closed { book: _, history } = book.close(passes);
     let transcripts = played?;

@@ -13,6 +13,7 @@ use book_turns::{Closed, TurnBook, TurnPass, TurnShare};
 use link_traits::Link;
 use play_definitions::Seating;
 use play_documents::play_all;
+use play_fetch::OverLink;
 use play_seats::open_play;
 use play_servers::SimLinks;
 use play_whole::SCRIPTED_THREADS;
@@ -70,6 +71,7 @@ fn play_seated<R: Threads + Wait + Sync, L: Link + Send + Drop>(
     let share = TurnShare { rt, book: &book };
     let transcripts = play_all(
         rt,
+        &OverLink,
         alloc,
         scenario,
         scenario.now,

@@ -9,6 +9,7 @@ use crate::scenarios::scenario_in;
 use book_calls::{Book, History, Share, SoloBook, SoloPass};
 use link_traits::MemorySink;
 use play_documents::drive;
+use play_fetch::OverLink;
 use play_text::write_play;
 use rows_links::{link_in, show_link};
 use rows_shell::{Failed, Held, Shown};
@@ -57,7 +58,7 @@ fn play_row<S: Share>(
     let held = scenario_of(alloc, line)?;
     let scenario = &held.value;
     let now = scenario.now;
-    let transcript = drive(alloc, scenario, 0, now, share, pass, &mut link.value);
+    let transcript = drive(&OverLink, alloc, scenario, 0, now, share, pass, &mut link.value);
     show_link(&link.value, shown);
     transcripts.push(transcript)?;
     Ok(())
