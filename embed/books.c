@@ -14,15 +14,16 @@ static uint64_t line;
 static uint32_t reason;
 static fiorrudda_handle none, book, other, headers;
 
-// A text is refused at a line, for a reason, and the handle is empty.
+// A text is refused at a line, for a reason, and the handle holds what it held.
 static void refused(const char *text, size_t size, uint64_t at, uint32_t why) {
+    void *was = other.at;
     line = 0, reason = 99;
     IS(NO, fiorrudda_book_of_text(&other, (const uint8_t *)text, size, &line, &reason));
     if (line != at || reason != why) {
         fprintf(stderr, "line %u, reason %u of:\n%s\n", (unsigned)line, (unsigned)reason, text);
         exit(1);
     }
-    HOLDS(!other.at);
+    HOLDS(other.at == was);
 }
 
 #define REFUSED(text, at, why) refused(text, sizeof(text) - 1, at, FIORRUDDA_REASON_##why)
@@ -61,10 +62,11 @@ static void full(void) {
 }
 
 static void refusals(void) {
+    void *was = other.at;
     // A text that was cut short is none, and neither is one with a byte more.
     for (size_t size = 0; size < sizeof(WHOLE) - 1; size++) {
         IS(NO, fiorrudda_book_of_text(&other, (const uint8_t *)WHOLE, size, &line, &reason));
-        HOLDS(!other.at);
+        HOLDS(other.at == was);
     }
     REFUSED(WHOLE "\n", 8, TOO_LONG);
     REFUSED("", 1, NO_BOOK);
@@ -95,9 +97,11 @@ static void misuse(void) {
     IS(OK, fiorrudda_book_of_text(&book, T(WHOLE), &line, &reason));
     IS(TOO_SHORT, fiorrudda_book_text(&book, room, sizeof(WHOLE) - 2, &len));
     HOLDS(len == sizeof(WHOLE) - 1 && room[0] == 0xEE);
-    // What the handle held is gone, also where the text is refused.
+    // What the handle held stays where the text is refused, and is freed where it is read.
     IS(NO, fiorrudda_book_of_text(&headers, T("x"), &line, &reason));
-    HOLDS(!headers.at);
+    IS(NO, fiorrudda_get(&headers, T("x"), room, sizeof room, &len));
+    IS(OK, fiorrudda_book_of_text(&headers, T(WHOLE), &line, &reason));
+    IS(WRONG_HANDLE, fiorrudda_get(&headers, T("x"), room, sizeof room, &len));
 }
 
 int main(void) {

@@ -128,6 +128,11 @@ static void failures(void) {
     IS(OK, fed("abcd"));
     IS(OK, fiorrudda_input(&fetch, FIORRUDDA_INPUT_FAILED));
     HOLDS(number(FIORRUDDA_NUMBER_END) == FIORRUDDA_END_FAULT && number(FIORRUDDA_NUMBER_COUNT) == 4);
+    // The bytes so far decide a body of no length, whatever comes of the connection.
+    begin();
+    IS(OK, fed("HTTP/1.1 200 OK\r\nContent-Length: 0\r\n\r\n"));
+    IS(OK, fiorrudda_input(&fetch, FIORRUDDA_INPUT_FAILED));
+    HOLDS(number(FIORRUDDA_NUMBER_END) == FIORRUDDA_END_WHOLE && says(FIORRUDDA_TEXT_BODY, ""));
     begin();
     IS(OK, fed("HTTP/1.1 200 OK\r\nContent-Length: 101\r\n\r\n"));
     for (int n = 0; n < 101 && act() == FIORRUDDA_ACT_READ_BODY; n++) IS(OK, fed("x"));

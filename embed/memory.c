@@ -62,7 +62,8 @@ static uint32_t source_matches(void) { return fiorrudda_source_matches(T("https:
 
 static fiorrudda_handle client, request, fetch, policies, found, shown;
 
-// The rules on a client's request, one after the other. What is to be made is empty where memory is refused.
+// The rules on a client's request, one after the other. A handle in which something was to be made holds what it held
+// where memory is refused.
 static uint32_t on_request(void) {
     uint32_t code, error;
     uint64_t age;
@@ -70,9 +71,11 @@ static uint32_t on_request(void) {
     if ((code = fiorrudda_request(&request, T("PUT"), T("https://b.example/a-path-of-more-than-thirty-bytes")))) return code;
     if ((code = fiorrudda_request_header(&request, T("X-A"), T("a value of more than thirty bytes")))) return code;
     if ((code = fiorrudda_append(&headers, T("Content-Security-Policy"), T("connect-src 'self'")))) return code;
-    if ((code = fiorrudda_policies(&policies, &headers))) { HOLDS(!policies.at); return code; }
+    void *was = policies.at;
+    if ((code = fiorrudda_policies(&policies, &headers))) { HOLDS(policies.at == was); return code; }
+    was = found.at;
     code = fiorrudda_check(&found, &policies, &client, &request, T("https://another-host-of-a-long-name.example/"), FIORRUDDA_CHECK_RESPONSE);
-    if (code != FIORRUDDA_NO) { HOLDS(!found.at); return code; }
+    if (code != FIORRUDDA_NO) { HOLDS(found.at == was); return code; }
     code = fiorrudda_mixed_upgraded(&client, &request, T("http://another-host-of-a-long-name.example/"));
     if (code != FIORRUDDA_NO) return code;
     if ((code = fiorrudda_mixed_blocked(&client, &request, T("http://another-host-of-a-long-name.example/")))) return code;
@@ -80,7 +83,8 @@ static uint32_t on_request(void) {
     if ((code = fiorrudda_preflight(&client, &request, room, 0, &len)) != FIORRUDDA_TOO_SHORT) { HOLDS(len == 77); return code; }
     if ((code = fiorrudda_verdict(&client, &request, &headers, 200, &error, &age)) != FIORRUDDA_NO) return code;
     if ((code = fiorrudda_refused_name(&client, &request, &headers, 200, room, sizeof room, &len)) != FIORRUDDA_NO) return code;
-    if ((code = fiorrudda_filtered(&shown, &client, &request, &headers, 200, FIORRUDDA_TAINTING_CORS, &error))) { HOLDS(!shown.at); return code; }
+    was = shown.at;
+    if ((code = fiorrudda_filtered(&shown, &client, &request, &headers, 200, FIORRUDDA_TAINTING_CORS, &error))) { HOLDS(shown.at == was); return code; }
     if ((code = fiorrudda_type_blocked(&request, &headers)) != FIORRUDDA_NO) return code;
     code = fiorrudda_nosniff_blocked(&request, &headers);
     return code == FIORRUDDA_NO ? FIORRUDDA_OK : code;
@@ -122,16 +126,19 @@ static void gone(void) {
     HOLDS(fiorrudda_to_send(&fetch, room, sizeof room, &len) == FIORRUDDA_NO);
 }
 
-// A whole fetch. Where memory is refused, what was to be made is empty, or the fetch is gone.
+// A whole fetch. Where memory is refused, a handle holds what it held, or the fetch is gone.
 static uint32_t whole(void) {
     uint32_t code, fault, header, act = FIORRUDDA_ACT_GONE;
-    if ((code = fiorrudda_client(&client, T("https://a-host-of-a-long-name.example/"), T("https://a.example/"), 0))) { HOLDS(!client.at); return code; }
+    void *was = client.at;
+    if ((code = fiorrudda_client(&client, T("https://a-host-of-a-long-name.example/"), T("https://a.example/"), 0))) { HOLDS(client.at == was); return code; }
     if ((code = fiorrudda_client_policy(&client, T("connect-src 'self' 'nonce-x'"), false))) return code;
     if ((code = fiorrudda_client_cookie(&client, T("https://a-host-of-a-long-name.example/"), T("a-cookie=of-more-than-thirty-bytes")))) return code;
-    if ((code = fiorrudda_request(&request, T("PUT"), T("https://b.example/a-path-of-more-than-thirty-bytes")))) { HOLDS(!request.at); return code; }
+    was = request.at;
+    if ((code = fiorrudda_request(&request, T("PUT"), T("https://b.example/a-path-of-more-than-thirty-bytes")))) { HOLDS(request.at == was); return code; }
     if ((code = fiorrudda_request_header(&request, T("X-A"), T("a value of more than thirty bytes")))) return code;
     if ((code = fiorrudda_request_text(&request, FIORRUDDA_REQUEST_BODY, T("a body of more than thirty bytes, or so")))) return code;
-    if ((code = fiorrudda_fetch(&fetch, &client, &request, 1, 1000, &fault, &header))) { HOLDS(!fetch.at); return code; }
+    was = fetch.at;
+    if ((code = fiorrudda_fetch(&fetch, &client, &request, 1, 1000, &fault, &header))) { HOLDS(fetch.at == was); return code; }
     for (size_t heads = 0;;) {
         HOLDS(fiorrudda_act(&fetch, &act) == FIORRUDDA_OK);
         if (act == FIORRUDDA_ACT_OVER) return FIORRUDDA_OK;

@@ -246,9 +246,9 @@ static void bytes(void) {
     IS(NO, fiorrudda_source_matches(T("\xff"), PAGE, PAGE, 0));
     IS(OK, fiorrudda_integrity(T("\xff"), T("x")));
     IS(NO, fiorrudda_sts(T("\xff"), &age, &a));
-    IS(NO, fiorrudda_note_host(&held[BOOK], T("\xff"), T("\xff"), 1));
-    IS(OK, fiorrudda_note_host(&held[BOOK], T("\xff"), T("max-age=9"), 1));
-    IS(OK, fiorrudda_known_host(&held[BOOK], T("\xff"), 1));
+    IS(NO, fiorrudda_note_host(&held[BOOK], T("a.example"), T("\xff"), 1));
+    IS(NOT_A_HOST, fiorrudda_note_host(&held[BOOK], T("\xff"), T("max-age=9"), 1));
+    IS(NOT_A_HOST, fiorrudda_known_host(&held[BOOK], T("\xff"), 1));
     IS(OK, fiorrudda_client_policy(&held[CLIENT], T("\xff"), true));
     IS(OK, fiorrudda_client_cookie(&held[CLIENT], PAGE, T("\xff")));
     IS(NO, fiorrudda_book_of_text(&made, T("\xff"), &line, &a));

@@ -142,7 +142,6 @@ static void policies(void) {
     IS(OK, fiorrudda_violation_url(&found, 0, room, sizeof room, &len));
     HOLDS(wrote("https://a.example/i"));
     IS(NO_SUCH_NUMBER, fiorrudda_check(&found, &policies, &client, &request, T(""), 3));
-    HOLDS(found.at == NULL);
     IS(NOT_A_URL, fiorrudda_check(&found, &policies, &client, &request, T("x"), 0));
     IS(NOT_HTTP, fiorrudda_check(&found, &policies, &client, &request, T("data:,x"), 0));
     IS(WRONG_HANDLE, fiorrudda_check(&found, &none, &client, &request, T(""), 0));
@@ -151,6 +150,10 @@ static void policies(void) {
     IS(WRONG_HANDLE, fiorrudda_check(&found, &policies, &headers, &request, T(""), 0));
     IS(WRONG_HANDLE, fiorrudda_check(&found, &policies, &client, &none, T(""), 0));
     IS(WRONG_HANDLE, fiorrudda_check(&found, &policies, &client, &headers, T(""), 0));
+    // What was found before is held still.
+    IS(OK, fiorrudda_violation_url(&found, 0, room, sizeof room, &len));
+    HOLDS(wrote("https://a.example/i"));
+    fiorrudda_free(&found);
     IS(WRONG_HANDLE, fiorrudda_violation(&found, 0, &policy, &enforced));
     IS(WRONG_HANDLE, fiorrudda_violation_directive(&policies, 0, room, sizeof room, &len));
     IS(WRONG_HANDLE, fiorrudda_violation_url(&none, 0, room, sizeof room, &len));
@@ -158,9 +161,10 @@ static void policies(void) {
     IS(NO_REQUEST, fiorrudda_check(&found, &policies, &client, &request, T(""), 0));
     IS(WRONG_HANDLE, fiorrudda_upgrades(&client));
     IS(WRONG_HANDLE, fiorrudda_upgrades(&none));
+    void *was = policies.at;
     IS(WRONG_HANDLE, fiorrudda_policies(&policies, &client));
-    HOLDS(policies.at == NULL);
     IS(WRONG_HANDLE, fiorrudda_policies(&policies, &none));
+    HOLDS(was != NULL && policies.at == was);
     IS(OK, fiorrudda_headers(&headers));
     IS(OK, fiorrudda_policies(&policies, &headers));
     IS(NO, fiorrudda_upgrades(&policies));
@@ -249,12 +253,12 @@ static void seen(void) {
     HOLDS(status == 0);
     IS(NO, fiorrudda_name_at(&made, 0, room, sizeof room, &len));
     status = 77;
+    void *was = made.at;
     IS(NO_SUCH_NUMBER, fiorrudda_filtered(&made, &client, &request, &headers, 201, 3, &status));
-    HOLDS(made.at == NULL);
     IS(WRONG_HANDLE, fiorrudda_filtered(&made, &none, &request, &headers, 201, 0, &status));
     IS(WRONG_HANDLE, fiorrudda_filtered(&made, &client, &none, &headers, 201, 0, &status));
     IS(WRONG_HANDLE, fiorrudda_filtered(&made, &client, &request, &none, 201, 0, &status));
-    HOLDS(status == 77 && made.at == NULL);
+    HOLDS(status == 77 && was != NULL && made.at == was);
     load(FIORRUDDA_LOAD_SCRIPT, "https://b.example/");
     IS(OK, fiorrudda_type_blocked(&request, &headers));
     IS(NO, fiorrudda_nosniff_blocked(&request, &headers));

@@ -174,6 +174,13 @@ static void hosts(void) {
     IS(NO, fiorrudda_known_host(&book, T("a.example"), 109));
     IS(TOO_LATE, fiorrudda_known_host(&book, T("a.example"), (uint64_t)1 << 48));
     IS(TOO_LATE, fiorrudda_note_host(&book, T("a.example"), T("max-age=1"), UINT64_MAX));
+    // An address, a localhost name, a capital letter, a port and no text are hosts that are never known.
+    const char *const hosts[] = {"127.0.0.1", "[::1]", "localhost", "a.localhost", "A.example", "a.example:1", "", "a b"};
+    for (size_t at = 0; at < sizeof hosts / sizeof *hosts; at++) {
+        const uint8_t *host = (const uint8_t *)hosts[at];
+        IS(NOT_A_HOST, fiorrudda_note_host(&book, host, strlen(hosts[at]), T("max-age=1"), 100));
+        IS(NOT_A_HOST, fiorrudda_known_host(&book, host, strlen(hosts[at]), 100));
+    }
     IS(WRONG_HANDLE, fiorrudda_append(&book, T("A"), T("1")));
     IS(WRONG_HANDLE, fiorrudda_cors_check(T("https://a.example"), false, &book));
     fiorrudda_free(&book);

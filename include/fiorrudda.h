@@ -27,13 +27,11 @@ extern "C" {
 // It does not hold; it does not pass; there is none.
 #define FIORRUDDA_NO 1u
 
-// A handle holds nothing of the kind that the call is for. Nothing is changed, but that a handle in which the call
-// makes something is empty.
+// A handle holds nothing of the kind that the call is for. Nothing is changed.
 #define FIORRUDDA_WRONG_HANDLE 2u
 
-// Memory was refused. What handles hold is as it was, but that a handle in which the call makes something is empty,
-// that a fetch which was told something is gone, and that a book which was asked may have taken the call. No answer
-// is written.
+// Memory was refused. What handles hold is as it was, except that a fetch which was told something is gone, and that
+// a book which a fetch asked may have done what it was asked: then its reply is told. No other answer is written.
 #define FIORRUDDA_OUT_OF_MEMORY 3u
 
 // The room for the answer is too short. Nothing is written but how many bytes the answer has.
@@ -59,6 +57,9 @@ extern "C" {
 
 // No request can be made of what is asked for; `fiorrudda_fetch` tells why.
 #define FIORRUDDA_NO_REQUEST 11u
+
+// A host is no domain as a URL has it, or a localhost name: it is never known.
+#define FIORRUDDA_NOT_A_HOST 12u
 
 // No policy: the default one, strict-origin-when-cross-origin, counts.
 #define FIORRUDDA_REFERRER_DEFAULT 0u
@@ -412,10 +413,9 @@ void fiorrudda_free(fiorrudda_handle *handle);
 //         printf("%.*s\n", (int)len, (char *)room); // Vary, twice
 //     fiorrudda_free(&headers);
 
-// Makes an empty header list in a handle (Fetch, section 2.2.2). What the handle held is freed first, also where
-// memory is refused.
+// Makes an empty header list in a handle (Fetch, section 2.2.2). What the handle held is freed.
 //
-// FIORRUDDA_OK or FIORRUDDA_OUT_OF_MEMORY.
+// FIORRUDDA_OK or FIORRUDDA_OUT_OF_MEMORY. Except for FIORRUDDA_OK the handle holds what it held.
 uint32_t fiorrudda_headers(fiorrudda_handle *headers);
 
 // "append": adds a header to a list, its name in the spelling that the list has already (Fetch, section 2.2.2).
@@ -618,10 +618,10 @@ uint32_t fiorrudda_resource_policy(const uint8_t *page, size_t page_len, const u
 
 // Makes the client of a document in a handle (HTML, section 8.1.3.2, "environment settings object"): its URL, the URL
 // of the page at the top, which is its own where it is not embedded, and its referrer policy, one of the numbers
-// FIORRUDDA_REFERRER_... It has no content security policies and no cookies. What the handle held is freed first.
+// FIORRUDDA_REFERRER_... It has no content security policies and no cookies. What the handle held is freed.
 //
 // FIORRUDDA_OK; FIORRUDDA_NO_SUCH_NUMBER; FIORRUDDA_NOT_A_URL and FIORRUDDA_NOT_HTTP, of either URL;
-// FIORRUDDA_OUT_OF_MEMORY. The handle is empty but for FIORRUDDA_OK.
+// FIORRUDDA_OUT_OF_MEMORY. Except for FIORRUDDA_OK the handle holds what it held.
 uint32_t fiorrudda_client(fiorrudda_handle *client, const uint8_t *url, size_t url_len, const uint8_t *top, size_t top_len, uint32_t policy);
 
 // Gives a client the policies of the value of a Content-Security-Policy header, or of a Content-Security-Policy-
@@ -641,17 +641,18 @@ uint32_t fiorrudda_client_cookie(fiorrudda_handle *client, const uint8_t *url, s
 
 // Makes in a handle what a script asks of `fetch`: a URL, which may be relative to the client's, by a method (Fetch,
 // section 5.6). Its mode is cors, its credentials mode same-origin, its redirect mode follow, its referrer the
-// client; it has neither headers, body nor integrity metadata. What the handle held is freed first.
+// client; it has neither headers, body nor integrity metadata. What the handle held is freed.
 //
-// FIORRUDDA_OK or FIORRUDDA_OUT_OF_MEMORY. The handle is empty but for FIORRUDDA_OK.
+// FIORRUDDA_OK or FIORRUDDA_OUT_OF_MEMORY. Except for FIORRUDDA_OK the handle holds what it held.
 uint32_t fiorrudda_request(fiorrudda_handle *request, const uint8_t *method, size_t method_len, const uint8_t *url, size_t url_len);
 
 // Makes in a handle what an element asks for that loads a resource (HTML, section 2.5.1, "create a potential-CORS
 // request"): one of the numbers FIORRUDDA_LOAD_.., and a URL, which may be relative to the client's. It has no
 // `crossorigin` attribute, no nonce and no integrity metadata, and no parser inserted it. What the handle held is
-// freed first.
+// freed.
 //
-// FIORRUDDA_OK; FIORRUDDA_NO_SUCH_NUMBER; FIORRUDDA_OUT_OF_MEMORY. The handle is empty but for FIORRUDDA_OK.
+// FIORRUDDA_OK; FIORRUDDA_NO_SUCH_NUMBER; FIORRUDDA_OUT_OF_MEMORY. Except for FIORRUDDA_OK the handle holds what it
+// held.
 uint32_t fiorrudda_load(fiorrudda_handle *request, uint32_t kind, const uint8_t *url, size_t url_len);
 
 // Adds a header to a `fetch`, its value without whitespace at its ends (Fetch, section 2.2.2, "normalize"). What is
@@ -690,10 +691,10 @@ uint32_t fiorrudda_request_choose(fiorrudda_handle *request, uint32_t choice, ui
 
 // Makes in a handle the policies of a header list, parsed and read once (CSP 3, section 2.2, "parse a response's
 // Content Security Policies"): those of Content-Security-Policy, which are enforced, and then those of Content-
-// Security-Policy-Report-Only. They are numbered from 0 on in this order. What the handle held is freed first.
+// Security-Policy-Report-Only. They are numbered from 0 on in this order. What the handle held is freed.
 //
-// FIORRUDDA_OK; FIORRUDDA_WRONG_HANDLE, of the header list; FIORRUDDA_OUT_OF_MEMORY. The handle is empty but for
-// FIORRUDDA_OK.
+// FIORRUDDA_OK; FIORRUDDA_WRONG_HANDLE, of the header list; FIORRUDDA_OUT_OF_MEMORY. Except for FIORRUDDA_OK the
+// handle holds what it held.
 uint32_t fiorrudda_policies(fiorrudda_handle *policies, fiorrudda_handle *headers);
 
 // Whether an enforced policy has `upgrade-insecure-requests`: the page's requests for http URLs are then made for
@@ -707,12 +708,12 @@ uint32_t fiorrudda_upgrades(fiorrudda_handle *policies);
 // FIORRUDDA_CHECK_.. (CSP 3, section 4.1, "should request be blocked by Content Security Policy?", "report Content
 // Security Policy violations for request" and "should response to request be blocked by Content Security Policy?").
 // They are in the order of the policies. `redirect` is the URL to which the request was redirected, or empty. What
-// the handle held is freed first.
+// the handle held is freed.
 //
 // FIORRUDDA_OK where nothing is violated; FIORRUDDA_NO where something is; FIORRUDDA_NO_SUCH_NUMBER;
 // FIORRUDDA_WRONG_HANDLE, of the policies, the client or the request; FIORRUDDA_NO_REQUEST where none can be made of
 // what is asked for, or nothing redirects it; FIORRUDDA_NOT_A_URL and FIORRUDDA_NOT_HTTP, of `redirect`;
-// FIORRUDDA_OUT_OF_MEMORY. The handle is empty but for FIORRUDDA_OK and FIORRUDDA_NO.
+// FIORRUDDA_OUT_OF_MEMORY. Except for FIORRUDDA_OK and FIORRUDDA_NO the handle holds what it held.
 //
 // A response is blocked where one of the violations is enforced. The client's own policies are not asked. A request
 // that a policy or Mixed Content upgrades is to be asked with its https URL.
@@ -821,12 +822,12 @@ uint32_t fiorrudda_refused_name(fiorrudda_handle *client, fiorrudda_handle *requ
 // Makes in a handle the header list that a page sees of an answer to its request, and tells in `seen` the status that
 // it sees: those of the filtered response by one of the numbers FIORRUDDA_TAINTING_.. (Fetch, section 2.2.6). Basic
 // hides Set-Cookie; of CORS the safelisted and the exposed headers are seen, by the request's credentials mode; of
-// opaque nothing, and its status is 0, as that of an opaque-redirect filtered response. What the handle held is freed
-// first.
+// opaque nothing, and its status is 0, as that of an opaque-redirect filtered response. What the handle held is
+// freed.
 //
 // FIORRUDDA_OK; FIORRUDDA_NO_SUCH_NUMBER; FIORRUDDA_WRONG_HANDLE, of the client, the request or the header list;
-// FIORRUDDA_NO_REQUEST where none can be made of what is asked for; FIORRUDDA_OUT_OF_MEMORY. The handle is empty but
-// for FIORRUDDA_OK, and but for FIORRUDDA_OK nothing is written.
+// FIORRUDDA_NO_REQUEST where none can be made of what is asked for; FIORRUDDA_OUT_OF_MEMORY. Except for FIORRUDDA_OK
+// the handle holds what it held, and nothing is written.
 uint32_t fiorrudda_filtered(fiorrudda_handle *filtered, fiorrudda_handle *client, fiorrudda_handle *request, fiorrudda_handle *headers, uint16_t status, uint32_t tainting, uint32_t *seen);
 
 // ---- Books: the known hosts and the preflight cache
@@ -841,10 +842,10 @@ uint32_t fiorrudda_filtered(fiorrudda_handle *filtered, fiorrudda_handle *client
 //         printf("line %u, reason %u\n", (unsigned)line, (unsigned)error); // line 1, FIORRUDDA_REASON_OTHER_FORMAT
 
 // Makes an empty book in a handle: no known HSTS hosts (RFC 6797, section 8), and an empty CORS-preflight cache
-// (Fetch, section 4.9). What the handle held is freed first, also where memory is refused. Threads that share a book
-// hold a lock of their own around each call that is given it, this one too.
+// (Fetch, section 4.9). What the handle held is freed. Threads that share a book hold a lock of their own around each
+// call that is given it, this one too.
 //
-// FIORRUDDA_OK or FIORRUDDA_OUT_OF_MEMORY.
+// FIORRUDDA_OK or FIORRUDDA_OUT_OF_MEMORY. Except for FIORRUDDA_OK the handle holds what it held.
 uint32_t fiorrudda_book(fiorrudda_handle *book);
 
 // What the value of a Strict-Transport-Security field says (RFC 6797, section 6.1): for how many seconds the host is
@@ -855,19 +856,20 @@ uint32_t fiorrudda_book(fiorrudda_handle *book);
 uint32_t fiorrudda_sts(const uint8_t *field, size_t field_len, uint64_t *age, uint32_t *subdomains);
 
 // Has a book note what the value of a Strict-Transport-Security field of a host says (RFC 6797, section 8.1), at a
-// time in seconds since any fixed moment. The host is the domain of a URL, in lower case: no IP address and no
-// localhost name, which is not looked at. The field came over https. Threads that share the book hold a lock of their
-// own around the call, as around each that is given the book.
+// time in seconds since any fixed moment. The host is the domain of a URL, in lower case. The field came over https.
+// Threads that share the book hold a lock of their own around the call, as around each that is given the book.
 //
 // FIORRUDDA_OK where the field says something; FIORRUDDA_NO where it is to be ignored; FIORRUDDA_WRONG_HANDLE;
+// FIORRUDDA_NOT_A_HOST of an IP address, a localhost name, a capital letter, or what is no domain;
 // FIORRUDDA_TOO_LATE; FIORRUDDA_OUT_OF_MEMORY. The book is as it was but for FIORRUDDA_OK.
 uint32_t fiorrudda_note_host(fiorrudda_handle *book, const uint8_t *host, size_t host_len, const uint8_t *field, size_t field_len, uint64_t now);
 
 // Whether a host is a known HSTS host of a book at a time in seconds (RFC 6797, section 8.2): http URLs of it are to
-// be asked by https. The host is the domain of a URL, in lower case: no IP address and no localhost name. Threads
-// that share the book hold a lock of their own around the call, as around each that is given the book.
+// be asked by https. The host is the domain of a URL, in lower case. Threads that share the book hold a lock of their
+// own around the call, as around each that is given the book.
 //
-// FIORRUDDA_OK where it is; FIORRUDDA_NO; FIORRUDDA_WRONG_HANDLE; FIORRUDDA_TOO_LATE; FIORRUDDA_OUT_OF_MEMORY.
+// FIORRUDDA_OK where it is; FIORRUDDA_NO; FIORRUDDA_WRONG_HANDLE; FIORRUDDA_NOT_A_HOST, as of `fiorrudda_note_host`;
+// FIORRUDDA_TOO_LATE; FIORRUDDA_OUT_OF_MEMORY.
 uint32_t fiorrudda_known_host(fiorrudda_handle *book, const uint8_t *host, size_t host_len, uint64_t now);
 
 // Writes the text of a book, which `fiorrudda_book_of_text` reads back as the same book, so that what it knows lasts
@@ -882,15 +884,14 @@ uint32_t fiorrudda_known_host(fiorrudda_handle *book, const uint8_t *host, size_
 // FIORRUDDA_TOO_SHORT nothing to `len`. The book is as it was.
 uint32_t fiorrudda_book_text(fiorrudda_handle *book, uint8_t *room, size_t room_len, size_t *len);
 
-// Makes in a handle the book whose text this is, as `fiorrudda_book_text` writes it. What the handle held is freed
-// first, also where the text is refused. Nothing is read of a text that is not that of a book: `line` tells its first
-// line that is not as such a text has it, counted from 1, and `reason` why, by FIORRUDDA_REASON_NO_BOOK to
-// FIORRUDDA_REASON_TOO_LONG. A line ends behind its last field, so that an LF within a name or a URL ends no line.
-// Where threads share the book that the handle held, they hold a lock of their own around the call, as around each
-// that is given the book.
+// Makes in a handle the book whose text this is, as `fiorrudda_book_text` writes it, and frees what the handle held.
+// Nothing is read of a text that is not that of a book: `line` tells its first line that is not as such a text has
+// it, counted from 1, and `reason` why, by FIORRUDDA_REASON_NO_BOOK to FIORRUDDA_REASON_TOO_LONG. A line ends behind
+// its last field, so that an LF within a name or a URL ends no line. Where threads share the book that the handle
+// held, they hold a lock of their own around the call, as around each that is given the book.
 //
-// FIORRUDDA_OK; FIORRUDDA_NO, where the text is refused; FIORRUDDA_OUT_OF_MEMORY. The handle is empty but for
-// FIORRUDDA_OK. `line` and `reason` are told with FIORRUDDA_NO alone.
+// FIORRUDDA_OK; FIORRUDDA_NO, where the text is refused; FIORRUDDA_OUT_OF_MEMORY. Except for FIORRUDDA_OK the handle
+// holds what it held. `line` and `reason` are told with FIORRUDDA_NO alone.
 uint32_t fiorrudda_book_of_text(fiorrudda_handle *book, const uint8_t *text, size_t text_len, uint64_t *line, uint32_t *reason);
 
 // ---- A whole fetch, by its acts
@@ -908,13 +909,13 @@ uint32_t fiorrudda_book_of_text(fiorrudda_handle *book, const uint8_t *text, siz
 
 // Begins in a handle the fetch of a request for a client, at a time in seconds since any fixed moment, with bodies of
 // at most `limit` bytes (Fetch, section 4.1, "main fetch"). Nothing is kept of the client and the request: each may
-// be used again. What the handle held is freed first. The fetch is then done by a loop over its acts: `fiorrudda_act`
-// says what is to be done, and a call tells what came of it, until it is FIORRUDDA_ACT_OVER.
+// be used again. What the handle held is freed. The fetch is then done by a loop over its acts: `fiorrudda_act` says
+// what is to be done, and a call tells what came of it, until it is FIORRUDDA_ACT_OVER.
 //
 // FIORRUDDA_OK; FIORRUDDA_WRONG_HANDLE; FIORRUDDA_NO_REQUEST where no request can be made of it: `fault` is then the
 // reason, one of the numbers FIORRUDDA_FAULT_.., and `header` the index of a header that is none (Fetch, sections 5.4
-// and 5.6); FIORRUDDA_TOO_LATE; FIORRUDDA_OUT_OF_MEMORY. The handle is empty but for FIORRUDDA_OK, and but for
-// FIORRUDDA_NO_REQUEST nothing is written.
+// and 5.6); FIORRUDDA_TOO_LATE; FIORRUDDA_OUT_OF_MEMORY. Except for FIORRUDDA_OK the handle holds what it held, and
+// except for FIORRUDDA_NO_REQUEST nothing is written.
 uint32_t fiorrudda_fetch(fiorrudda_handle *fetch, fiorrudda_handle *client, fiorrudda_handle *request, uint64_t now, uint32_t limit, uint32_t *fault, uint32_t *header);
 
 // Tells in `act` what a fetch does next (Fetch, section 4), by one of the numbers FIORRUDDA_ACT_... `fiorrudda_text`
@@ -930,8 +931,8 @@ uint32_t fiorrudda_act(fiorrudda_handle *fetch, uint32_t *act);
 //
 // FIORRUDDA_OK; FIORRUDDA_NOT_AWAITED where the act asks no book, and then the fetch stands where it stood and the
 // book is as it was; FIORRUDDA_WRONG_HANDLE; FIORRUDDA_OUT_OF_MEMORY, and then the fetch is gone: its act is
-// FIORRUDDA_ACT_GONE. The book is then as it was, or as it is after the call. But for FIORRUDDA_OK nothing is written
-// to `reply`.
+// FIORRUDDA_ACT_GONE. Where the book did what it was asked before memory was refused, the reply is told; else the
+// book is as it was, and nothing is written to `reply`. So is it with the other codes.
 uint32_t fiorrudda_ask(fiorrudda_handle *fetch, fiorrudda_handle *book, uint32_t *reply);
 
 // Writes all bytes of the request that a fetch sends (RFC 9112, section 3) at the beginning of `room`, and tells in

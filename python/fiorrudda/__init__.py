@@ -25,6 +25,7 @@ __all__ = [
     "NoSuchNumber",
     "NotABook",
     "NotAHeader",
+    "NotAHost",
     "NotAUrl",
     "NotAwaited",
     "NotHttp",
@@ -110,6 +111,10 @@ class TooLate(FiorruddaError):
     """A time is 2^48 seconds or more."""
 
 
+class NotAHost(FiorruddaError):
+    """A host is no domain as a URL has it, or a localhost name: it is never known."""
+
+
 class NotAwaited(FiorruddaError):
     """What came is not what the fetch awaits. It stands where it stood."""
 
@@ -140,7 +145,7 @@ class NotABook(FiorruddaError):
 
 
 _ERRORS = {2: WrongHandle, 3: OutOfMemory, 5: NoSuchNumber, 6: NotAUrl, 7: NotHttp, 8: NotAHeader, 9: TooLate,
-           10: NotAwaited}
+           10: NotAwaited, 12: NotAHost}
 
 
 class ReferrerPolicy(enum.IntEnum):

@@ -12,8 +12,6 @@ use book_calls::{Book, Entry, Op, Reply, Share};
 use std::alloc::Global;
 use std::marker::Model;
 use std::snapshot::Snapshot;
-use std::sync::Wait;
-use std::thread::Threads;
 use value_places::Shared;
 use value_text::OutOfMemory;
 
@@ -200,9 +198,8 @@ impl<'a> Share for TapeShare<'a> {
 
     ghost account = { spec.account_of };
 
-    fn call<R: Threads + Wait + Sync>(
+    fn call(
         &self,
-        _rt: &R,
         _alloc: Global,
         pass: &mut TapePass<'a>,
         op: Shared<Op>,

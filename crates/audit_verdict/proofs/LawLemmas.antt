@@ -9,9 +9,9 @@ use Rattle.value_lemmas.proofs.Lists.{position_or_len-no, position_or_len-yes}
 use Rattle.book_calls.specs.declared.book.Book.{Book}
 use Rattle.book_calls.specs.declared.entry.Entry.{Entry}
 use Rattle.book_calls.specs.Book.{after}
-use Rattle.book_calls.specs.Entries.{LegalFrom}
+use Rattle.book_calls.specs.Entries.{HasTurnsFrom, LegalFrom}
 use Rattle.play_isolation.specs.Laws.{PlaysAlone}
-use Rattle.play_definitions.specs.Plays.{HasTurnsFrom, IsPlay, IsTranscript, by_rules, opening_book, ways_to_servers}
+use Rattle.play_definitions.specs.Plays.{IsPlay, IsTranscript, by_rules, opening_book, ways_to_servers}
 use Rattle.script_events.specs.declared.events.Transcript.{Transcript}
 use Rattle.script_runs.specs.Documents.{EachDocument}
 use Rattle.script_scenarios.specs.declared.scenario.Scenario.{Scenario}
@@ -117,7 +117,7 @@ is-sound law bytes play is =
         holds = of.holds;
         text_is = is.1;
       };
-      isolated = law by_rules scenario scenario.now (ways_to_servers scenario) (ways_to_servers scenario)
+      alone = law by_rules scenario scenario.now (ways_to_servers scenario) (ways_to_servers scenario)
           ran.transcripts of.history made;
     }
 

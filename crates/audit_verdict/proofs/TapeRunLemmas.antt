@@ -19,13 +19,13 @@ use Rattle.script_scenarios.specs.declared.document.Document.{Document}
 use Rattle.script_scenarios.specs.declared.scenario.Scenario.{Scenario}
 use Rattle.script_scenarios.specs.declared.servers.Server.{Server}
 use Rattle.play_servers.specs.Sim.{SimState}
-use Rattle.play_definitions.specs.Playing.{RunCameTo, RunPlayed}
-use Rattle.play_definitions.specs.Worlds.{Outside, outside}
+use Rattle.play_definitions.specs.Playing.{RunCameTo}
+use Rattle.play_definitions.specs.Worlds.{outside}
 use Rattle.play_isolation.specs.Calls.{PartAtReply}
 use Rattle.play_isolation.specs.Laws.{CallsFollow}
 use Rattle.play_definitions.specs.Plays.{RunsOver, by_rules, outside_on, way_to_servers}
-use Rattle.play_seats.proofs.ClosedLemmas.{ran-of}
-use Rattle.play_seats.proofs.ServerLemmas.{by_bytes, ran-by-rules, sim_told, trace-state}
+use Rattle.play_seats.proofs.ServedLemmas.{fresh_link, served-run, way_of_servers}
+use Rattle.play_seats.proofs.ServerLemmas.{by_bytes, sim_told}
 use Rattle.audit_replay.specs.Tapes.{IsParted, IsTape, IsUsedUp, Tape, account_of, before_stray, first_op, seen_on}
 use Rattle.audit_replay.specs.Tapes.{stray_entries, stray_reply}
 use Rattle.audit_verdict.specs.Verdicts.{Comes, ComesTo}
@@ -33,13 +33,10 @@ use Rattle.audit_verdict.specs.Private.Runs.{CameTo}
 
 -- ---- the transcript that a run over a tape comes to
 
--- a pass on which no call was made, and a link to the servers with nothing to come
+-- a pass on which no call was made
 abbrev pub fresh_tape : ℕ → Book → List Entry → Tape
 fresh_tape number opening history =
     record { document = number; opening = opening; history = history; at = 0; strays = []; calls = 0 }
-
-abbrev pub fresh_link : Scenario → SimState
-fresh_link scenario = record { servers = scenario.servers; piece = scenario.piece; left = [] }
 
 -- over what the pass has seen the document comes to its transcript
 pub seen-run : (scenario : Scenario) (number : ℕ) (opening : Book) (history : List Entry) (document : Document)
@@ -51,30 +48,11 @@ pub seen-run : (scenario : Scenario) (number : ℕ) (opening : Book) (history : 
     → ComesTo scenario (seen_on new) number document transcript
 seen-run scenario number opening history document new link transcript same numbered keyed told came =
     let whole = document_run scenario.cookies scenario.now document in
-    let old = outside account_of sim_told (fresh_tape number opening history) (fresh_link scenario) in
-    let ran = ran-of by_bytes scenario.body_limit number whole old transcript.events transcript.ending transcript.clock
-    (outside account_of sim_told new link) told came in
-    let servers : Some link.servers ≡ Some scenario.servers =
-    sym (ap (λ (o : Outside (List Server)). o.state) ran.to) ∙ trace-state scenario.body_limit number ran.trace
-    ∙ ap (λ (o : Outside (List Server)). o.state) ran.from in
-    let left = (account_of new).left in
-    record {
-      document_is = numbered;
-      key_is = keyed;
-      run_is = record {
-        before = (account_of (fresh_tape number opening history)).left;
-        behind = left;
-        ran = ran-by-rules scenario.body_limit number whole old transcript.events transcript.ending transcript.clock
-            (outside_on (way_to_servers scenario) (entries_of number (seen_on new)) left)
-            (subst (λ (n : ℕ). RunPlayed by_bytes scenario.body_limit number whole old transcript.events
-            transcript.ending transcript.clock (outside_on (way_to_servers scenario) (entries_of n (seen_on new))
-            left)) same
-            (subst (λ (s : Option (List Server)). RunPlayed by_bytes scenario.body_limit number whole old
-            transcript.events transcript.ending transcript.clock
-            (outside_on (record { state = s; received = None; faults = 0 }) (entries_of new.document (seen_on new))
-            left)) servers ran));
-      };
-    }
+    let left = (account_of (fresh_tape number opening history)).left in
+    served-run scenario number (seen_on new) document left (account_of new).left link transcript numbered keyed told
+    (subst (λ (n : ℕ). RunCameTo by_bytes scenario.body_limit number whole
+    (outside_on (way_to_servers scenario) [] left) transcript.events transcript.ending transcript.clock
+    (outside_on (way_of_servers link.servers) (entries_of n (seen_on new)) (account_of new).left)) same came)
 
 -- ---- entries that were used up
 
@@ -201,12 +179,6 @@ unused-run law scenario number history document new transcript at same over is u
     some-same is = cc
 
 -- ---- a document
-
-pub document-at : (documents : List Document) (number : ℕ) → number < length documents
-    → (document : Document) × (slice_get documents number ≡ Some document)
-document-at [] number below = absurd (omega (arith, below))
-document-at (document ∷ documents) zero below = (document, refl)
-document-at (document ∷ documents) (suc number) below = document-at documents number (omega (arith, below))
 
 -- over what a pass has seen that was new, with a link that was, the document comes to its transcript
 pub came-to : (scenario : Scenario) (number : ℕ) (opening : Book) (history : List Entry) (document : Document)

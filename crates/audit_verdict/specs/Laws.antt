@@ -6,8 +6,8 @@ use Rattle.script_events.specs.declared.events.Transcript.{Transcript}
 use Rattle.play_text.specs.Text.{play_text}
 use Rattle.script_reading.specs.Scenarios.{scenario_of}
 use Rattle.script_scenarios.specs.declared.scenario.Scenario.{Scenario}
-use Rattle.play_isolation.specs.Isolated.{IsIsolated}
-use Rattle.play_definitions.specs.Plays.{IsPlay, by_rules, ways_to_servers}
+use Rattle.play_isolation.specs.Isolated.{AllAreAlone}
+use Rattle.play_definitions.specs.Plays.{IsPlay}
 use Rattle.audit_text.specs.Histories.{Holds}
 use Rattle.audit_verdict.specs.Verdicts.{IsVerdict}
 use Rattle.audit_verdict.specs.declared.verdict.Verdict.{Verdict}
@@ -27,8 +27,7 @@ pub record IsTextOfPlay (bytes play : Text) : Type 0 where
 -- and in that play what each document sends and sees is what it would alone.
 pub record IsAudited (bytes play : Text) : Type 0 where
   pub of : IsTextOfPlay bytes play
-  pub isolated : IsIsolated by_rules of.scenario of.scenario.now (ways_to_servers of.scenario)
-      (ways_to_servers of.scenario) of.transcripts of.history
+  pub alone : AllAreAlone of.is_play.runs
 
 abbrev pub IsSound : Type 0
 IsSound = (bytes play : Text) → IsVerdict bytes play verdict.Play → IsAudited bytes play

@@ -19,8 +19,6 @@ use script_reading::read_scenario;
 use script_scenarios::Scenario;
 use std::alloc::Global;
 use std::snapshot::Snapshot;
-use std::sync::Wait;
-use std::thread::Threads;
 use value_text::OutOfMemory;
 
 /// Audits a text that claims to be the printed play of a scenario over its own servers, without playing it: no thread
@@ -28,8 +26,7 @@ use value_text::OutOfMemory;
 /// no history, or a line of it is no entry's; an entry is not what the book gives; an entry names no document; a
 /// document makes other calls than those of its entries; the text is not that of the play with this history. Else it
 /// is `Play`.
-pub fn audit<R: Threads + Wait + Sync>(
-    rt: &R,
+pub fn audit(
     alloc: Global,
     scenario: &[u8],
     play: &[u8],
@@ -38,13 +35,12 @@ pub fn audit<R: Threads + Wait + Sync>(
 {
     match read_scenario(alloc, scenario)? {
         Err(place) => Ok(Verdict::Scenario(place)),
-        Ok(scenario) => audit_text(rt, alloc, &scenario, play),
+        Ok(scenario) => audit_text(alloc, &scenario, play),
     }
 }
 
 // The verdict on a text, by its scenario.
-fn audit_text<R: Threads + Wait + Sync>(
-    rt: &R,
+fn audit_text(
     alloc: Global,
     scenario: &Scenario,
     play: &[u8],
@@ -54,13 +50,12 @@ fn audit_text<R: Threads + Wait + Sync>(
 {
     match read_history(alloc, play)? {
         Reading::Fault(number) => Ok(Verdict::History(number)),
-        Reading::Entries(history) => audit_history(rt, alloc, scenario, &history, play),
+        Reading::Entries(history) => audit_history(alloc, scenario, &history, play),
     }
 }
 
 // The verdict by the history that the text holds.
-fn audit_history<R: Threads + Wait + Sync>(
-    rt: &R,
+fn audit_history(
     alloc: Global,
     scenario: &Scenario,
     history: &History,
@@ -78,12 +73,11 @@ fn audit_history<R: Threads + Wait + Sync>(
     if let Some(index) = first_stranger(scenario.documents.len() as u32, history.as_slice()) {
         return Ok(Verdict::Stranger(index));
     }
-    audit_runs(rt, alloc, scenario, history, &opening, play)
+    audit_runs(alloc, scenario, history, &opening, play)
 }
 
 // The verdict by the runs of the documents over that history.
-fn audit_runs<R: Threads + Wait + Sync>(
-    rt: &R,
+fn audit_runs(
     alloc: Global,
     scenario: &Scenario,
     history: &History,
@@ -97,7 +91,7 @@ fn audit_runs<R: Threads + Wait + Sync>(
     requires named { first_stranger (length scenario.now.documents) history.now ≡ None }
     ensures { (bytes : List ℕ) → scenario_of bytes ≡ Ok scenario.entry.now → IfOk result (IsVerdict bytes play.now) }
 {
-    let transcripts = match run_all(rt, alloc, scenario, history.as_slice(), opening)? {
+    let transcripts = match run_all(alloc, scenario, history.as_slice(), opening)? {
         Runs::Stops(number) => return Ok(Verdict::Calls(number)),
         Runs::Came(transcripts) => transcripts,
     };

@@ -7,14 +7,13 @@ ghost use Rattle.audit_verdict.specs.Private.Runs as spec;
 use audit_replay::{TapePass, TapeShare};
 use book_calls::{Book, Entry};
 use play_documents::drive;
+use play_fetch::OverLink;
 use play_isolation::law_same_calls;
 use play_servers::SimLink;
 use script_events::{Ending, Transcript, Transcripts};
 use script_scenarios::Scenario;
 use std::alloc::Global;
 use std::snapshot::Snapshot;
-use std::sync::Wait;
-use std::thread::Threads;
 use value_text::OutOfMemory;
 
 /// What the runs of all documents come to.
@@ -27,8 +26,7 @@ pub(crate) enum Runs {
 }
 
 // The run of one document over its entries, where it makes just the calls of these entries.
-fn run_one<R: Threads + Wait + Sync>(
-    rt: &R,
+fn run_one(
     alloc: Global,
     scenario: &Scenario,
     number: u32,
@@ -45,7 +43,7 @@ fn run_one<R: Threads + Wait + Sync>(
     let mut pass = TapePass::new(alloc, number, history, opening);
     let mut link = SimLink::new(scenario);
     let transcript = drive(
-        rt,
+        &OverLink,
         alloc,
         scenario,
         number,
@@ -65,8 +63,7 @@ fn run_one<R: Threads + Wait + Sync>(
 }
 
 // The runs of all documents over their entries, one after the other.
-pub(crate) fn run_all<R: Threads + Wait + Sync>(
-    rt: &R,
+pub(crate) fn run_all(
     alloc: Global,
     scenario: &Scenario,
     history: &[Entry],
@@ -80,7 +77,7 @@ pub(crate) fn run_all<R: Threads + Wait + Sync>(
     let mut transcripts = Transcripts::new(alloc);
     for number in 0..count {
         let number = number as u32;
-        match run_one(rt, alloc, scenario, number, history, opening)? {
+        match run_one(alloc, scenario, number, history, opening)? {
             Some(transcript) => transcripts.push(transcript)?,
             None => return Ok(Runs::Stops(number)),
         }

@@ -8,7 +8,7 @@ use crate::lessons::{lesson, question};
 use crate::words::{count_in, some_in};
 use book_calls::{Book, Op, Share};
 use book_preflights::Lesson;
-use book_turns::{TurnBook, TurnPass};
+use book_turns::{TurnBook, TurnPass, TurnShare};
 use rows_shell::{Failed, Row};
 use std::alloc::Global;
 use std::sync::Wait;
@@ -82,8 +82,7 @@ fn shared(alloc: Global, number: u64) -> Result<Shared<Op>, Failed>
 }
 
 // Makes so many calls on a pass, or fewer where memory runs out, and says how many were answered.
-fn calls<S: Share, R: Threads + Wait + Sync>(
-    rt: &R,
+fn calls<S: Share>(
     alloc: Global,
     share: &S,
     pass: &mut S::Pass,
@@ -96,7 +95,7 @@ fn calls<S: Share, R: Threads + Wait + Sync>(
         let Ok(op) = shared(alloc, u64::from(made)) else {
             return u64::from(made);
         };
-        if share.call(rt, alloc, pass, op).is_err() {
+        if share.call(alloc, pass, op).is_err() {
             return u64::from(made);
         }
     }
@@ -123,7 +122,7 @@ where
         threads,
         &|_: usize, row: &mut Played<S::Pass>|
             requires { S.belongs share.now row.now.pass × (count ≤ (S.account row.now.pass).left) }
-        { row.answered = calls(rt, alloc, share, &mut row.pass, count) },
+        { row.answered = calls(alloc, share, &mut row.pass, count) },
     );
 }
 
@@ -168,6 +167,7 @@ pub(crate) fn answered<R: Threads + Wait + Sync>(
     let count = count_in(words, 3)?;
     let (book, mut first) = TurnBook::new(alloc, Book::new(alloc))?;
     let mut rows = open_rows(alloc, &book, &mut first, passes)?;
-    play_rows(rt, alloc, &book, rows.as_mut_slice(), threads, count);
+    let share = TurnShare { rt, book: &book };
+    play_rows(rt, alloc, &share, rows.as_mut_slice(), threads, count);
     Ok(answered_in(rows.as_slice()))
 }

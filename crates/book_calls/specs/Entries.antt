@@ -34,6 +34,11 @@ entries_of document history = filter (λ e. e.document == document) history
 abbrev pub AllTurnsBelow : ℕ → List Entry → Type 0
 AllTurnsBelow turn history = AllByRecursion (λ e. e.turn < turn) history
 
+-- entry by entry, the turns are this number and those that follow it
+abbrev pub HasTurnsFrom : ℕ → List Entry → Type 0
+HasTurnsFrom turn [] = Unit {0}
+HasTurnsFrom turn (entry ∷ history) = (entry.turn ≡ turn) × HasTurnsFrom (turn + 1) history
+
 -- the history begins with what was seen of it
 abbrev pub StartsWith : List Entry → List Entry → Type 0
 StartsWith history seen = (rest : List Entry) × (history ≡ seen ++ rest)

@@ -1,5 +1,5 @@
 -- The operations on the book: which are in range, and which answer a question.
-use Rattle.std.specs.Prelude.{ℕ, ◌<◌, ◌≤◌, ◌^◌, Bool, true, false}
+use Rattle.std.specs.Prelude.{ℕ, ◌<◌, ◌≤◌, ◌^◌, ◌&&◌, Bool, true, false, nat_le, nat_lt}
 use Rattle.book_calls.specs.declared.op.Op.{Op}
 use Rattle.book_calls.specs.declared.op.Op.TheVariants.{Match, Note, Covers, Learn, Clear}
 use Rattle.book_calls.specs.declared.op.Reply.{Reply}
@@ -24,6 +24,14 @@ HasSmallAge (Clear key origin url now) = Unit {0}
 -- the op's time and the age of a Note are below 2^48, and the age of a Learn is at most 7,200
 abbrev pub InRange : Op → Type 0
 InRange op = (time_of op < 2 ^ 48) × HasSmallAge op
+
+-- the test of it
+abbrev pub is_in_range : Op → Bool
+is_in_range (Match host now) = nat_lt now (2 ^ 48)
+is_in_range (Note host sts now) = nat_lt now (2 ^ 48) && nat_lt sts.age (2 ^ 48)
+is_in_range (Covers question now) = nat_lt now (2 ^ 48)
+is_in_range (Learn lesson now) = nat_lt now (2 ^ 48) && nat_le lesson.age 7200
+is_in_range (Clear key origin url now) = nat_lt now (2 ^ 48)
 
 -- the op asks a question
 abbrev pub is_question : Op → Bool

@@ -6,8 +6,6 @@ ghost use Rattle.book_calls.specs.Ops.{InRange, is_answer, is_question};
 
 use crate::op::{Op, Reply};
 use std::alloc::Global;
-use std::sync::Wait;
-use std::thread::Threads;
 use value_places::Shared;
 use value_text::OutOfMemory;
 
@@ -25,9 +23,8 @@ pub trait Share {
     /// seen of the history is legal, begins with what it had seen and ends with that entry. A refused
     /// call leaves its own entries as they were. In each case what it has seen has no other entry of
     /// its document than its own.
-    fn call<R: Threads + Wait + Sync>(
+    fn call(
         &self,
-        rt: &R,
         alloc: Global,
         pass: &mut Self::Pass,
         op: Shared<Op>,

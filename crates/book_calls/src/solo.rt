@@ -1,6 +1,7 @@
-// A share of the book that has one pass, which keeps the book itself.
-ghost use Rattle.std.specs.Prelude.{◌≡◌, []};
-ghost use Rattle.book_calls.specs.Entries.{AllTurnsBelow, Legal, book_after};
+// A share of the book that one pass has for itself, which keeps the book and its history.
+ghost use Rattle.std.specs.Prelude.{◌≡◌, [], ◌++◌, length};
+ghost use Rattle.book_calls.specs.Entries.{HasTurnsFrom, Legal, book_after};
+ghost use Rattle.book_calls.specs.Solo.{AreOf};
 
 use crate::book::Book;
 use crate::history::History;
@@ -9,63 +10,93 @@ use crate::share::Share;
 use std::alloc::Global;
 use std::marker::Model;
 use std::snapshot::Snapshot;
-use std::sync::Wait;
-use std::thread::Threads;
 use value_places::Shared;
 use value_text::OutOfMemory;
 
-/// A share that one pass has for itself.
+/// A share that one pass has for itself, seen as the entries that stood in the history when it was opened.
 #[derive(Drop)]
-pub struct SoloBook;
+pub struct SoloBook {
+    behind: Snapshot<History>,
+}
 
-/// The one pass of it, which keeps the book. Its document is 0.
+impl Model for SoloBook {
+    ghost use Rattle.std.specs.Prelude.{List};
+    ghost use Rattle.book_calls.specs.declared.entry.Entry.{Entry};
+
+    ghost Value = { List Entry };
+
+    ghost view = { λ share. share.behind.value };
+}
+
+/// The one pass of it, which keeps the book and its history.
 #[derive(Drop)]
 pub struct SoloPass {
+    document: u32,
     book: Book,
     history: History,
     opening: Snapshot<Book>,
+    behind: Snapshot<History>,
     calls: u64,
 }
 
 impl Model for SoloPass {
-    ghost use Rattle.book_calls.specs.Private.Solo.{IsSolo};
+    ghost use Rattle.book_calls.specs.Private.Solo.{IsSolo, solo_of};
     ghost use Rattle.book_calls.specs.Solo.{Solo};
 
     ghost Value = { Solo };
 
-    ghost view = { λ pass. record { opening = pass.opening.value; entries = pass.history; calls = pass.calls } };
+    ghost view = { λ pass. solo_of pass.document pass.opening.value pass.behind.value pass.history pass.calls };
 
-    ghost invariant = { λ pass. IsSolo pass.book pass.opening.value pass.history pass.calls };
+    ghost invariant = { λ pass. IsSolo pass.book pass.history
+        (solo_of pass.document pass.opening.value pass.behind.value pass.history pass.calls) };
 }
 
 impl SoloBook {
-    /// Opens the book to one pass, which has no entries yet. It takes no memory.
+    /// Opens a book to one pass for document 0, and a history. It takes no memory.
     pub fn new(alloc: Global, book: Book) -> (SoloBook, SoloPass)
-        ensures { (result.1.opening ≡ book) × (result.1.entries ≡ []) × (result.1.calls ≡ 0) }
+        ensures share { result.0 ≡ [] }
+        ensures pass { result.1 ≡ record { document = 0; opening = book; behind = []; entries = []; calls = 0 } }
     {
-        let opening = Snapshot::of(&book);
-        let pass = SoloPass {
-            book,
-            history: History::new(alloc),
-            opening,
-            calls: 0,
-        };
-        (SoloBook, pass)
+        SoloBook::resumed(book, History::new(alloc), 0)
     }
 
-    /// The book and the pass's entries, which are all that it has seen: they are legal from the opening
-    /// book, and the book is the one after them. Their turn numbers are below the number of its calls,
-    /// refused ones too. It takes no memory.
+    /// Opens a book to one pass for this document, behind a history, in which the turn of entry i is i. It takes no
+    /// memory.
+    pub fn resumed(book: Book, history: History, document: u32) -> (SoloBook, SoloPass)
+        requires { HasTurnsFrom 0 history }
+        ensures share { result.0 ≡ history }
+        ensures pass { result.1
+            ≡ record { document = document; opening = book; behind = history; entries = []; calls = 0 } }
+    {
+        let share = SoloBook {
+            behind: Snapshot::of(&history),
+        };
+        let pass = SoloPass {
+            document,
+            opening: Snapshot::of(&book),
+            behind: Snapshot::of(&history),
+            book,
+            history,
+            calls: 0,
+        };
+        (share, pass)
+    }
+
+    /// The book and its history, which has grown by the pass's entries. These are legal from the opening book, they are
+    /// of the pass's document, and the turn of entry i of the history is i. It takes no memory.
     pub fn close(self, pass: SoloPass) -> (Book, History)
         ensures book { result.0 ≡ book_after pass.opening pass.entries }
-        ensures entries { result.1 ≡ pass.entries }
-        ensures legal { Legal pass.opening result.1 }
-        ensures turns { AllTurnsBelow pass.calls result.1 }
+        ensures grown { result.1 ≡ pass.behind ++ pass.entries }
+        ensures legal { Legal pass.opening pass.entries }
+        ensures of_document { AreOf pass.document pass.entries }
+        ensures turns { HasTurnsFrom 0 result.1 }
     {
         let SoloPass {
+            document: _,
             book,
             history,
             opening: _,
+            behind: _,
             calls: _,
         } = pass;
         (book, history)
@@ -75,27 +106,22 @@ impl SoloBook {
 impl Share for SoloBook {
     type Pass = SoloPass;
 
-    ghost use Rattle.std.specs.Prelude.{◌-◌};
+    ghost use Rattle.std.specs.Prelude.{◌≡◌};
+    ghost use Rattle.book_calls.specs.Solo.{solo_account};
 
-    ghost belongs = { λ b p. Unit {0} };
+    ghost belongs = { λ share pass. pass.behind ≡ share };
 
-    ghost account = { λ p. record {
-      document = 0;
-      opening = p.opening;
-      own = p.entries;
-      seen = p.entries;
-      left = 4294967295 - p.calls;
-    } };
+    ghost account = { solo_account };
 
-    fn call<R: Threads + Wait + Sync>(
+    fn call(
         &self,
-        _rt: &R,
         alloc: Global,
         pass: &mut SoloPass,
         op: Shared<Op>,
     ) -> Result<Reply, OutOfMemory> {
-        let turn = pass.calls;
+        let turn = pass.history.len() as u64;
         pass.calls += 1;
-        pass.history.apply(alloc, &mut pass.book, turn, 0, op)
+        pass.history
+            .apply(alloc, &mut pass.book, turn, pass.document, op)
     }
 }

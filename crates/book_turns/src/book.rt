@@ -16,7 +16,6 @@ use std::alloc::Global;
 use std::hint::spin_loop;
 use std::snapshot::Snapshot;
 use std::sync::{Mutex, MutexGuard, Wait};
-use std::thread::Threads;
 use value_places::Shared;
 use value_text::OutOfMemory;
 
@@ -115,29 +114,30 @@ impl TurnBook {
     }
 }
 
-impl Share for TurnBook {
+/// The share that a book gives to threads, with the runtime by which its calls wait.
+#[derive(Drop)]
+pub struct TurnShare<'a, R> {
+    pub rt: &'a R,
+    pub book: &'a TurnBook,
+}
+
+impl<'a, R: Wait> Share for TurnShare<'a, R> {
     type Pass = TurnPass;
 
     ghost use Rattle.std.specs.Prelude.{◌≡◌};
     ghost use Rattle.book_turns.specs.Passes.{account_of};
 
-    ghost belongs = { λ b p. p.seat.table_id ≡ b.table.shared.table_id };
+    ghost belongs = { λ s p. p.seat.table_id ≡ s.book.now.table.shared.table_id };
 
     ghost account = { account_of };
 
     /// Does an operation, as any share does: it waits for its turn, works on the book and passes the turn.
     /// The documents that the pass has made passes for stay as well.
-    fn call<R: Threads + Wait + Sync>(
-        &self,
-        rt: &R,
-        alloc: Global,
-        pass: &mut TurnPass,
-        op: Shared<Op>,
-    ) -> Result<Reply, OutOfMemory>
-        requires belongs { pass.old.seat.table_id ≡ self.now.table.shared.table_id }
+    fn call(&self, alloc: Global, pass: &mut TurnPass, op: Shared<Op>) -> Result<Reply, OutOfMemory>
+        requires belongs { pass.old.seat.table_id ≡ self.now.book.now.table.shared.table_id }
         requires left { 0 < left_of pass.old }
         requires range { InRange op }
-        ensures belongs { pass.new.seat.table_id ≡ self.now.table.shared.table_id }
+        ensures belongs { pass.new.seat.table_id ≡ self.now.book.now.table.shared.table_id }
         ensures same { (pass.new.document ≡ pass.old.document) × (opening_of pass.new ≡ opening_of pass.old) }
         ensures made { made_of pass.new ≡ made_of pass.old }
         ensures left { left_of pass.new ≡ left_of pass.old - 1 }
@@ -148,11 +148,11 @@ impl Share for TurnBook {
             ((own_of pass.new ≡ own_of pass.old) × StartsWith (seen_of pass.new) (seen_of pass.old)) }
         ensures whole { entries_of pass.new.document (seen_of pass.new) ≡ own_of pass.new }
     {
-        let _entered = self.enter(rt);
+        let _entered = self.book.enter(self.rt);
         take_turn(
-            rt,
+            self.rt,
             alloc,
-            &self.table.shared,
+            &self.book.table.shared,
             &mut pass.seat,
             pass.document,
             op,

@@ -10,7 +10,7 @@ mod steps;
 mod turn;
 mod view;
 
-pub use book::TurnBook;
+pub use book::{TurnBook, TurnShare};
 pub use close::Closed;
 pub use desk::Desk;
 pub use laws::{law_turns, law_whole};

@@ -1,5 +1,5 @@
 -- What the calls tell of a book as a text.
-use Rattle.std.specs.Prelude.{◌≡◌, ℕ, Option, Some, None, Result, Ok, Err}
+use Rattle.std.specs.Prelude.{◌≡◌, ℕ, Option, Some, Result, Ok, Err}
 use Rattle.value_text.specs.Texts.{Text}
 use Rattle.book_calls.specs.declared.book.Book.{Book}
 use Rattle.book_text.specs.Reading.{read_book}
@@ -36,9 +36,9 @@ reason_number Order = REASON_ORDER
 reason_number Full = REASON_FULL
 reason_number TooLong = REASON_TOO_LONG
 
--- the handle holds the book that was read, or is empty, and the refusal is told
-abbrev pub IsRead : Result Book Refusal → ℕ → ℕ → ℕ → ℕ → ℕ → Option Thing → Type 0
-IsRead (Ok book) line_before line reason_before reason code held =
+-- the handle holds the book that was read; or it holds what it held, and the refusal is told
+abbrev pub IsRead : Result Book Refusal → ℕ → ℕ → ℕ → ℕ → ℕ → Option Thing → Option Thing → Type 0
+IsRead (Ok book) line_before line reason_before reason code before held =
     (code ≡ OK) × (held ≡ Some (thing.Book book)) × (line ≡ line_before) × (reason ≡ reason_before)
-IsRead (Err refusal) line_before line reason_before reason code held =
-    (code ≡ NO) × (held ≡ None) × (line ≡ refusal.line) × (reason ≡ reason_number refusal.reason)
+IsRead (Err refusal) line_before line reason_before reason code before held =
+    (code ≡ NO) × (held ≡ before) × (line ≡ refusal.line) × (reason ≡ reason_number refusal.reason)

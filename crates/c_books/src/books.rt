@@ -1,5 +1,5 @@
 // A book as a text.
-ghost use Rattle.std.specs.Prelude.{◌≡◌, ◌≢◌, None, take};
+ghost use Rattle.std.specs.Prelude.{◌≡◌, ◌≢◌, take};
 ghost use Rattle.c_books.specs.Books.{IsRead, IsReadBack, IsTextOf, reason_number};
 ghost use Rattle.c_handle.specs.Codes.{IsKept};
 ghost use Rattle.book_text.specs.Reading.{read_book};
@@ -70,14 +70,14 @@ fn reason_number(reason: Reason) -> u32
     }
 }
 
-/// Makes in a handle the book whose text this is, as `fiorrudda_book_text` writes it. What the handle held is freed
-/// first, also where the text is refused. Nothing is read of a text that is not that of a book: `line` tells its first
-/// line that is not as such a text has it, counted from 1, and `reason` why, by `REASON_NO_BOOK` to `REASON_TOO_LONG`.
-/// A line ends behind its last field, so that an LF within a name or a URL ends no line. Where threads share the book
-/// that the handle held, they hold a lock of their own around the call, as around each that is given the book.
+/// Makes in a handle the book whose text this is, as `fiorrudda_book_text` writes it, and frees what the handle held.
+/// Nothing is read of a text that is not that of a book: `line` tells its first line that is not as such a text has it,
+/// counted from 1, and `reason` why, by `REASON_NO_BOOK` to `REASON_TOO_LONG`. A line ends behind its last field, so
+/// that an LF within a name or a URL ends no line. Where threads share the book that the handle held, they hold a lock
+/// of their own around the call, as around each that is given the book.
 ///
-/// `OK`; `NO`, where the text is refused; `OUT_OF_MEMORY`. The handle is empty but for `OK`. `line` and `reason` are
-/// told with `NO` alone.
+/// `OK`; `NO`, where the text is refused; `OUT_OF_MEMORY`. Except for `OK` the handle holds what it held. `line` and
+/// `reason` are told with `NO` alone.
 #[unsafe(no_mangle)]
 pub extern "C" fn fiorrudda_book_of_text(
     alloc: Global,
@@ -87,11 +87,10 @@ pub extern "C" fn fiorrudda_book_of_text(
     reason: &mut u32,
 ) -> u32
     ensures told { result ≢ OUT_OF_MEMORY
-        → IsRead (read_book text.now) line.old line.new reason.old reason.new result book.new.held }
+        → IsRead (read_book text.now) line.old line.new reason.old reason.new result book.old.held book.new.held }
     ensures out_of_memory { result ≡ OUT_OF_MEMORY
-        → (book.new.held ≡ None) × (line.new ≡ line.old) × (reason.new ≡ reason.old) }
+        → (book.new.held ≡ book.old.held) × (line.new ≡ line.old) × (reason.new ≡ reason.old) }
 {
-    book.clear(alloc);
     match book_of(alloc, text) {
         Ok(read) => book.fill(alloc, Thing::Book(read)),
         Err(ReadError::Memory) => OUT_OF_MEMORY,

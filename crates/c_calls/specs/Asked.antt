@@ -6,12 +6,12 @@ use Rattle.c_calls.specs.Terms.{held_request, load_of, text_set, yes_or_no}
 use Rattle.c_calls.specs.Calls.{Done, done, done_by}
 use Rattle.c_calls.specs.Choices.{load_numbered}
 
--- the handle holds the load, or is empty
-abbrev pub IsLoadOf : Option Asked → ℕ → Option Thing → Type 0
-IsLoadOf None code held = (code ≡ NO_SUCH_NUMBER) × (held ≡ None)
-IsLoadOf (Some asked) code held = (code ≡ OK) × (held ≡ Some (thing.Request asked))
+-- the handle holds the load, or what it held
+abbrev pub IsLoadOf : Option Asked → ℕ → Option Thing → Option Thing → Type 0
+IsLoadOf None code before held = (code ≡ NO_SUCH_NUMBER) × (held ≡ before)
+IsLoadOf (Some asked) code before held = (code ≡ OK) × (held ≡ Some (thing.Request asked))
 
-abbrev pub IsLoad : ℕ → Text → ℕ → Option Thing → Type 0
+abbrev pub IsLoad : ℕ → Text → ℕ → Option Thing → Option Thing → Type 0
 IsLoad number url = IsLoadOf (option_and_then (λ kind. load_of kind url) (load_numbered number))
 
 -- a request after a change, which was made or not

@@ -51,4 +51,4 @@ note_done host field now book (Err refusal) = done (code_of refusal) (Some (thin
 -- a Strict-Transport-Security field of a host, which a book notes
 abbrev pub note_host : Text → Text → ℕ → Option Thing → Done
 note_host host field now held =
-    done_by (held_book held) (λ book. note_done host field now book (says field now)) held
+    done_by (held_book held) (λ book. note_done host field now book (says host field now)) held

@@ -6,16 +6,16 @@ use Rattle.c_calls.specs.Terms.{held_client, settings_of, with_policies}
 use Rattle.c_calls.specs.Calls.{Done, done, done_by}
 use Rattle.c_calls.specs.Referrers.{policy_numbered}
 
--- the handle holds the client, or is empty
-abbrev pub IsClientOf : Result Setup Refusal → ℕ → Option Thing → Type 0
-IsClientOf (Ok settings) code held = (code ≡ OK) × (held ≡ Some (thing.Client settings))
-IsClientOf (Err refusal) code held = (code ≡ code_of refusal) × (held ≡ None)
+-- the handle holds the client, or what it held
+abbrev pub IsClientOf : Result Setup Refusal → ℕ → Option Thing → Option Thing → Type 0
+IsClientOf (Ok settings) code before held = (code ≡ OK) × (held ≡ Some (thing.Client settings))
+IsClientOf (Err refusal) code before held = (code ≡ code_of refusal) × (held ≡ before)
 
-abbrev pub IsClientBy : Option ReferrerPolicy → Text → Text → ℕ → Option Thing → Type 0
-IsClientBy None url top code held = (code ≡ NO_SUCH_NUMBER) × (held ≡ None)
-IsClientBy (Some policy) url top code held = IsClientOf (settings_of url top policy) code held
+abbrev pub IsClientBy : Option ReferrerPolicy → Text → Text → ℕ → Option Thing → Option Thing → Type 0
+IsClientBy None url top code before held = (code ≡ NO_SUCH_NUMBER) × (held ≡ before)
+IsClientBy (Some policy) url top code before held = IsClientOf (settings_of url top policy) code before held
 
-abbrev pub IsClient : Text → Text → ℕ → ℕ → Option Thing → Type 0
+abbrev pub IsClient : Text → Text → ℕ → ℕ → Option Thing → Option Thing → Type 0
 IsClient url top number = IsClientBy (policy_numbered number) url top
 
 -- a client with the policies of one more value

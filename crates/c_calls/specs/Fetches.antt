@@ -19,30 +19,31 @@ abbrev pub header_of : TypeFault → ℕ
 header_of (BadHeader index) = index
 header_of _ = 0
 
--- the fetch begins, or why there is no request is told
-abbrev pub BegunAs : Result Standing TypeFault → ℕ → Option Thing → ℕ → ℕ → ℕ → ℕ → Type 0
-BegunAs (Ok standing) code held fault_before fault header_before header =
+-- the fetch begins; or why there is no request is told, and the handle holds what it held
+abbrev pub BegunAs : Result Standing TypeFault → ℕ → Option Thing → Option Thing → ℕ → ℕ → ℕ → ℕ → Type 0
+BegunAs (Ok standing) code before held fault_before fault header_before header =
     (code ≡ OK) × (stands_in held ≡ Some standing) × (fault ≡ fault_before) × (header ≡ header_before)
-BegunAs (Err why) code held fault_before fault header_before header =
-    (code ≡ NO_REQUEST) × (held ≡ None) × (fault ≡ fault_number why) × (header ≡ header_of why)
+BegunAs (Err why) code before held fault_before fault header_before header =
+    (code ≡ NO_REQUEST) × (held ≡ before) × (fault ≡ fault_number why) × (header ≡ header_of why)
 
 -- no fetch begins, by this code
-abbrev pub IsRefused : ℕ → ℕ → Option Thing → ℕ → ℕ → ℕ → ℕ → Type 0
-IsRefused expected code held fault_before fault header_before header =
-    (code ≡ expected) × (held ≡ None) × (fault ≡ fault_before) × (header ≡ header_before)
+abbrev pub IsRefused : ℕ → ℕ → Option Thing → Option Thing → ℕ → ℕ → ℕ → ℕ → Type 0
+IsRefused expected code before held fault_before fault header_before header =
+    (code ≡ expected) × (held ≡ before) × (fault ≡ fault_before) × (header ≡ header_before)
 
-abbrev pub BeginsWhere : Bool → Result Standing TypeFault → ℕ → Option Thing → ℕ → ℕ → ℕ → ℕ → Type 0
+abbrev pub BeginsWhere : Bool → Result Standing TypeFault → ℕ → Option Thing → Option Thing → ℕ → ℕ → ℕ → ℕ → Type 0
 BeginsWhere true begun = BegunAs begun
 BeginsWhere false begun = IsRefused TOO_LATE
 
-abbrev pub BeginsOf : Setup → Asked → ℕ → ℕ → ℕ → Option Thing → ℕ → ℕ → ℕ → ℕ → Type 0
+abbrev pub BeginsOf : Setup → Asked → ℕ → ℕ → ℕ → Option Thing → Option Thing → ℕ → ℕ → ℕ → ℕ → Type 0
 BeginsOf settings asked now limit = BeginsWhere (nat_lt now (2 ^ 48)) (begun_as settings asked now limit)
 
-abbrev pub BeginsBy : Option (Setup × Asked) → ℕ → ℕ → ℕ → Option Thing → ℕ → ℕ → ℕ → ℕ → Type 0
+abbrev pub BeginsBy : Option (Setup × Asked) → ℕ → ℕ → ℕ → Option Thing → Option Thing → ℕ → ℕ → ℕ → ℕ → Type 0
 BeginsBy None now limit = IsRefused WRONG_HANDLE
 BeginsBy (Some it) now limit = BeginsOf it.0 it.1 now limit
 
-abbrev pub Begins : Option Thing → Option Thing → ℕ → ℕ → ℕ → Option Thing → ℕ → ℕ → ℕ → ℕ → Type 0
+abbrev pub Begins :
+    Option Thing → Option Thing → ℕ → ℕ → ℕ → Option Thing → Option Thing → ℕ → ℕ → ℕ → ℕ → Type 0
 Begins client request = BeginsBy (both (held_client client) (held_request request))
 
 -- ---- acts

@@ -5,7 +5,7 @@ use Rattle.fetch_session.specs.declared.session.Went.TheVariants as went
 use Rattle.c_handle.specs.declared.thing.Thing.TheVariants as thing
 use Rattle.c_calls.specs.Terms.{Asks, Book, BookAfter, Done, Ends, Fails, Fed, NOT_AWAITED, NO_SUCH_NUMBER, No, OK}
 use Rattle.c_calls.specs.Terms.{OUT_OF_MEMORY, Reply, Session, Standing, Takes, Text, Thing, WRONG_HANDLE, Went, Yes}
-use Rattle.c_calls.specs.Terms.{act_of, both, held_book, held_fetch, reply_told, standing_of}
+use Rattle.c_calls.specs.Terms.{act_of, both, held_book, held_fetch, standing_of}
 use Rattle.c_calls.specs.declared.inputs.Said.{Said}
 use Rattle.c_calls.specs.declared.inputs.Said.TheVariants as said
 
@@ -68,11 +68,6 @@ IsFed bytes before = IsFedTo (held_fetch before) bytes before
 
 -- ---- the book
 
--- what the book is after the call
-abbrev pub IsBook : Option Standing → Book → ℕ → Option Thing → Type 0
-IsBook standing book code (Some (thing.Book after)) = BookAfter (act_of standing) (went_told code) book after
-IsBook standing book code _ = ⊥
-
 -- the reply is told, if there is one
 abbrev pub reply_number : Reply → ℕ
 reply_number Yes = 4
@@ -83,14 +78,19 @@ abbrev pub IsReply : Option Reply → ℕ → ℕ → Type 0
 IsReply None before number = number ≡ before
 IsReply (Some reply) before number = number ≡ reply_number reply
 
+-- the book after the call, and the reply that is told
+abbrev pub IsBook : Option Standing → Book → ℕ → Option Thing → ℕ → ℕ → Type 0
+IsBook standing book code (Some (thing.Book after)) before number =
+    (told : Option Reply) × BookAfter (act_of standing) (went_told code) book after told × IsReply told before number
+IsBook standing book code _ before number = ⊥
+
 abbrev pub IsBookAskedOf :
     Option (Session × Book) → Option Thing → Option Thing → ℕ → ℕ → Option Thing → Option Thing → ℕ → Type 0
 IsBookAskedOf None other other_book before code fetch book reply =
     (code ≡ WRONG_HANDLE) × (fetch ≡ other) × (book ≡ other_book) × (reply ≡ before)
 IsBookAskedOf (Some it) other other_book before code fetch book reply =
     let standing = standing_of it.0 in
-    Tells (Asks it.1 standing) code fetch × IsBook standing it.1 code book
-    × IsReply (reply_told (went_told code) it.1 (act_of standing)) before reply
+    Tells (Asks it.1 standing) code fetch × IsBook standing it.1 code book before reply
 
 abbrev pub IsBookAsked : Option Thing → Option Thing → ℕ → ℕ → Option Thing → Option Thing → ℕ → Type 0
 IsBookAsked fetch book = IsBookAskedOf (both (held_fetch fetch) (held_book book)) fetch book

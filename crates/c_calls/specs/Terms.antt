@@ -24,7 +24,7 @@ pub use Rattle.c_rules.specs.Headers.{appending}
 pub use Rattle.c_rules.specs.Hosts.{after_field, is_known_host, says}
 pub use Rattle.c_rules.specs.declared.refusal.Refusal.{Refusal}
 pub use Rattle.fetch_acts.specs.declared.act.Act.{Act}
-pub use Rattle.fetch_session.specs.Asking.{Asks, BookAfter, reply_told}
+pub use Rattle.fetch_session.specs.Asking.{Asks, BookAfter}
 pub use Rattle.fetch_session.specs.Feeding.{Ends, Fails, Fed}
 pub use Rattle.fetch_session.specs.Sessions.{Takes, act_of, outcome_of, standing_of}
 pub use Rattle.fetch_session.specs.Standings.{Standing}

@@ -1,5 +1,5 @@
 // Requests: what is asked for.
-ghost use Rattle.std.specs.Prelude.{◌≡◌, ◌≢◌, None, Some};
+ghost use Rattle.std.specs.Prelude.{◌≡◌, ◌≢◌, Some};
 ghost use Rattle.c_calls.specs.Asked.{add_header, choose, set_text, IsLoad};
 ghost use Rattle.c_calls.specs.Calls.{done};
 ghost use Rattle.c_calls.specs.Choices as choices;
@@ -12,9 +12,9 @@ use std::alloc::Global;
 
 /// Makes in a handle what a script asks of `fetch`: a URL, which may be relative to the client's, by a method (Fetch,
 /// section 5.6). Its mode is cors, its credentials mode same-origin, its redirect mode follow, its referrer the client;
-/// it has neither headers, body nor integrity metadata. What the handle held is freed first.
+/// it has neither headers, body nor integrity metadata. What the handle held is freed.
 ///
-/// `OK` or `OUT_OF_MEMORY`. The handle is empty but for `OK`.
+/// `OK` or `OUT_OF_MEMORY`. Except for `OK` the handle holds what it held.
 #[unsafe(no_mangle)]
 pub extern "C" fn fiorrudda_request(
     alloc: Global,
@@ -23,9 +23,8 @@ pub extern "C" fn fiorrudda_request(
     url: &[u8],
 ) -> u32
     ensures ok { result ≡ OK → request.new.held ≡ Some (Thing.Request (fetch_of method.now url.now)) }
-    ensures out_of_memory { result ≢ OK → (result ≡ OUT_OF_MEMORY) × (request.new.held ≡ None) }
+    ensures out_of_memory { result ≢ OK → (result ≡ OUT_OF_MEMORY) × (request.new.held ≡ request.old.held) }
 {
-    request.clear(alloc);
     match Asked::fetch(alloc, method, url) {
         Ok(asked) => request.fill(alloc, Thing::Request(asked)),
         Err(_) => OUT_OF_MEMORY,
@@ -34,15 +33,14 @@ pub extern "C" fn fiorrudda_request(
 
 /// Makes in a handle what an element asks for that loads a resource (HTML, section 2.5.1, "create a potential-CORS
 /// request"): one of the numbers `LOAD_..`, and a URL, which may be relative to the client's. It has no `crossorigin`
-/// attribute, no nonce and no integrity metadata, and no parser inserted it. What the handle held is freed first.
+/// attribute, no nonce and no integrity metadata, and no parser inserted it. What the handle held is freed.
 ///
-/// `OK`; `NO_SUCH_NUMBER`; `OUT_OF_MEMORY`. The handle is empty but for `OK`.
+/// `OK`; `NO_SUCH_NUMBER`; `OUT_OF_MEMORY`. Except for `OK` the handle holds what it held.
 #[unsafe(no_mangle)]
 pub extern "C" fn fiorrudda_load(alloc: Global, request: &mut Handle, kind: u32, url: &[u8]) -> u32
-    ensures told { result ≢ OUT_OF_MEMORY → IsLoad kind url.now result request.new.held }
-    ensures out_of_memory { result ≡ OUT_OF_MEMORY → request.new.held ≡ None }
+    ensures told { result ≢ OUT_OF_MEMORY → IsLoad kind url.now result request.old.held request.new.held }
+    ensures out_of_memory { result ≡ OUT_OF_MEMORY → request.new.held ≡ request.old.held }
 {
-    request.clear(alloc);
     let Some(kind) = load_numbered(kind) else {
         return NO_SUCH_NUMBER;
     };

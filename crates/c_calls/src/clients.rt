@@ -1,5 +1,5 @@
 // Clients: the documents that fetch.
-ghost use Rattle.std.specs.Prelude.{◌≡◌, ◌≢◌, None};
+ghost use Rattle.std.specs.Prelude.{◌≡◌, ◌≢◌};
 ghost use Rattle.c_calls.specs.Clients.{add_cookie, add_policies, IsClient};
 ghost use Rattle.c_calls.specs.Calls.{done};
 
@@ -10,10 +10,10 @@ use std::alloc::Global;
 
 /// Makes the client of a document in a handle (HTML, section 8.1.3.2, "environment settings object"): its URL, the URL
 /// of the page at the top, which is its own where it is not embedded, and its referrer policy, one of the numbers
-/// `REFERRER_..`. It has no content security policies and no cookies. What the handle held is freed first.
+/// `REFERRER_..`. It has no content security policies and no cookies. What the handle held is freed.
 ///
-/// `OK`; `NO_SUCH_NUMBER`; `NOT_A_URL` and `NOT_HTTP`, of either URL; `OUT_OF_MEMORY`. The handle is empty but for
-/// `OK`.
+/// `OK`; `NO_SUCH_NUMBER`; `NOT_A_URL` and `NOT_HTTP`, of either URL; `OUT_OF_MEMORY`. Except for `OK` the handle holds
+/// what it held.
 #[unsafe(no_mangle)]
 pub extern "C" fn fiorrudda_client(
     alloc: Global,
@@ -22,10 +22,10 @@ pub extern "C" fn fiorrudda_client(
     top: &[u8],
     policy: u32,
 ) -> u32
-    ensures told { result ≢ OUT_OF_MEMORY → IsClient url.now top.now policy result client.new.held }
-    ensures out_of_memory { result ≡ OUT_OF_MEMORY → client.new.held ≡ None }
+    ensures told { result ≢ OUT_OF_MEMORY → IsClient url.now top.now policy result client.old.held
+        client.new.held }
+    ensures out_of_memory { result ≡ OUT_OF_MEMORY → client.new.held ≡ client.old.held }
 {
-    client.clear(alloc);
     let Some(policy) = policy_numbered(policy) else {
         return NO_SUCH_NUMBER;
     };

@@ -1,5 +1,5 @@
 // Whole fetches that touch nothing.
-ghost use Rattle.std.specs.Prelude.{◌≡◌, ◌≢◌, None};
+ghost use Rattle.std.specs.Prelude.{◌≡◌, ◌≢◌};
 ghost use Rattle.c_calls.specs.Fetches as spec;
 ghost use Rattle.c_calls.specs.Parts as parts;
 ghost use Rattle.c_rules.specs.Answers.{IsUnlessMemory};
@@ -49,7 +49,7 @@ fn header_of(fault: TypeFault) -> u32
     }
 }
 
-// Begins a fetch in a handle that is empty.
+// Begins a fetch in a handle.
 fn begun(
     alloc: Global,
     fetch: &mut Handle,
@@ -60,11 +60,10 @@ fn begun(
     fault: &mut u32,
     header: &mut u32,
 ) -> u32
-    requires { fetch.old.held ≡ None }
-    ensures told { result ≢ OUT_OF_MEMORY → spec.BeginsOf settings.now asked.now now limit result fetch.new.held
-        fault.old fault.new header.old header.new }
+    ensures told { result ≢ OUT_OF_MEMORY → spec.BeginsOf settings.now asked.now now limit result fetch.old.held
+        fetch.new.held fault.old fault.new header.old header.new }
     ensures out_of_memory { result ≡ OUT_OF_MEMORY
-        → (fetch.new.held ≡ None) × (fault.new ≡ fault.old) × (header.new ≡ header.old) }
+        → (fetch.new.held ≡ fetch.old.held) × (fault.new ≡ fault.old) × (header.new ≡ header.old) }
 {
     match begin(alloc, settings, asked, now, limit) {
         Ok(Ok(session)) => fetch.fill(alloc, Thing::Fetch(session)),
@@ -79,12 +78,12 @@ fn begun(
 
 /// Begins in a handle the fetch of a request for a client, at a time in seconds since any fixed moment, with bodies of
 /// at most `limit` bytes (Fetch, section 4.1, "main fetch"). Nothing is kept of the client and the request: each may be
-/// used again. What the handle held is freed first. The fetch is then done by a loop over its acts: `fiorrudda_act`
+/// used again. What the handle held is freed. The fetch is then done by a loop over its acts: `fiorrudda_act`
 /// says what is to be done, and a call tells what came of it, until it is `ACT_OVER`.
 ///
 /// `OK`; `WRONG_HANDLE`; `NO_REQUEST` where no request can be made of it: `fault` is then the reason, one of the
 /// numbers `FAULT_..`, and `header` the index of a header that is none (Fetch, sections 5.4 and 5.6); `TOO_LATE`;
-/// `OUT_OF_MEMORY`. The handle is empty but for `OK`, and but for `NO_REQUEST` nothing is written.
+/// `OUT_OF_MEMORY`. Except for `OK` the handle holds what it held, and except for `NO_REQUEST` nothing is written.
 #[unsafe(no_mangle)]
 pub extern "C" fn fiorrudda_fetch(
     alloc: Global,
@@ -96,14 +95,13 @@ pub extern "C" fn fiorrudda_fetch(
     fault: &mut u32,
     header: &mut u32,
 ) -> u32
-    ensures told { result ≢ OUT_OF_MEMORY → Begins client.old.held request.old.held now limit result fetch.new.held
-        fault.old fault.new header.old header.new }
+    ensures told { result ≢ OUT_OF_MEMORY → Begins client.old.held request.old.held now limit result fetch.old.held
+        fetch.new.held fault.old fault.new header.old header.new }
     ensures out_of_memory { result ≡ OUT_OF_MEMORY
-        → (fetch.new.held ≡ None) × (fault.new ≡ fault.old) × (header.new ≡ header.old) }
+        → (fetch.new.held ≡ fetch.old.held) × (fault.new ≡ fault.old) × (header.new ≡ header.old) }
     ensures client { client.new.held ≡ client.old.held }
     ensures request { request.new.held ≡ request.old.held }
 {
-    fetch.clear(alloc);
     let Some(settings) = client.client() else {
         return WRONG_HANDLE;
     };

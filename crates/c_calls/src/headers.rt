@@ -1,5 +1,5 @@
 // Header lists.
-ghost use Rattle.std.specs.Prelude.{◌≡◌, ◌≢◌, [], None, Some};
+ghost use Rattle.std.specs.Prelude.{◌≡◌, ◌≢◌, [], Some};
 ghost use Rattle.c_calls.specs.Calls.{append_to, done, IsGot};
 
 use c_handle::{Handle, OK, OUT_OF_MEMORY, Thing, WRONG_HANDLE, code_of, write_answer};
@@ -7,14 +7,13 @@ use c_rules::{append_header, value_of};
 use std::alloc::Global;
 use value_headers::HeaderList;
 
-/// Makes an empty header list in a handle (Fetch, section 2.2.2). What the handle held is freed first, also where
-/// memory is refused.
+/// Makes an empty header list in a handle (Fetch, section 2.2.2). What the handle held is freed.
 ///
-/// `OK` or `OUT_OF_MEMORY`.
+/// `OK` or `OUT_OF_MEMORY`. Except for `OK` the handle holds what it held.
 #[unsafe(no_mangle)]
 pub extern "C" fn fiorrudda_headers(alloc: Global, headers: &mut Handle) -> u32
     ensures ok { result ≡ OK → headers.new.held ≡ Some (Thing.Headers []) }
-    ensures out_of_memory { result ≢ OK → (result ≡ OUT_OF_MEMORY) × (headers.new.held ≡ None) }
+    ensures out_of_memory { result ≢ OK → (result ≡ OUT_OF_MEMORY) × (headers.new.held ≡ headers.old.held) }
 {
     headers.fill(alloc, Thing::Headers(HeaderList::new(alloc)))
 }

@@ -1,5 +1,5 @@
 // The book, and the hosts that it knows.
-ghost use Rattle.std.specs.Prelude.{◌≡◌, ◌≢◌, None, Some};
+ghost use Rattle.std.specs.Prelude.{◌≡◌, ◌≢◌, Some};
 ghost use Rattle.c_calls.specs.Calls.{done, known_host, note_host};
 ghost use Rattle.c_calls.specs.Sts.{IsSts};
 ghost use Rattle.book_calls.specs.Book.{empty};
@@ -11,24 +11,24 @@ use c_rules::{is_known_host, note_field};
 use std::alloc::Global;
 
 /// Makes an empty book in a handle: no known HSTS hosts (RFC 6797, section 8), and an empty CORS-preflight cache
-/// (Fetch, section 4.9). What the handle held is freed first, also where memory is refused. Threads that share a book
-/// hold a lock of their own around each call that is given it, this one too.
+/// (Fetch, section 4.9). What the handle held is freed. Threads that share a book hold a lock of their own around each
+/// call that is given it, this one too.
 ///
-/// `OK` or `OUT_OF_MEMORY`.
+/// `OK` or `OUT_OF_MEMORY`. Except for `OK` the handle holds what it held.
 #[unsafe(no_mangle)]
 pub extern "C" fn fiorrudda_book(alloc: Global, book: &mut Handle) -> u32
     ensures ok { result ≡ OK → book.new.held ≡ Some (Thing.Book empty) }
-    ensures out_of_memory { result ≢ OK → (result ≡ OUT_OF_MEMORY) × (book.new.held ≡ None) }
+    ensures out_of_memory { result ≢ OK → (result ≡ OUT_OF_MEMORY) × (book.new.held ≡ book.old.held) }
 {
     book.fill(alloc, Thing::Book(Book::new(alloc)))
 }
 
 /// Has a book note what the value of a Strict-Transport-Security field of a host says (RFC 6797, section 8.1), at a
-/// time in seconds since any fixed moment. The host is the domain of a URL, in lower case: no IP address and no
-/// localhost name, which is not looked at. The field came over https. Threads that share the book hold a lock of their
-/// own around the call, as around each that is given the book.
+/// time in seconds since any fixed moment. The host is the domain of a URL, in lower case. The field came over https.
+/// Threads that share the book hold a lock of their own around the call, as around each that is given the book.
 ///
-/// `OK` where the field says something; `NO` where it is to be ignored; `WRONG_HANDLE`; `TOO_LATE`; `OUT_OF_MEMORY`.
+/// `OK` where the field says something; `NO` where it is to be ignored; `WRONG_HANDLE`; `NOT_A_HOST` of an IP address, a
+/// localhost name, a capital letter, or what is no domain; `TOO_LATE`; `OUT_OF_MEMORY`.
 /// The book is as it was but for `OK`.
 #[unsafe(no_mangle)]
 pub extern "C" fn fiorrudda_note_host(
@@ -51,10 +51,10 @@ pub extern "C" fn fiorrudda_note_host(
 }
 
 /// Whether a host is a known HSTS host of a book at a time in seconds (RFC 6797, section 8.2): http URLs of it are to
-/// be asked by https. The host is the domain of a URL, in lower case: no IP address and no localhost name. Threads that
-/// share the book hold a lock of their own around the call, as around each that is given the book.
+/// be asked by https. The host is the domain of a URL, in lower case. Threads that share the book hold a lock of their
+/// own around the call, as around each that is given the book.
 ///
-/// `OK` where it is; `NO`; `WRONG_HANDLE`; `TOO_LATE`; `OUT_OF_MEMORY`.
+/// `OK` where it is; `NO`; `WRONG_HANDLE`; `NOT_A_HOST`, as of `fiorrudda_note_host`; `TOO_LATE`; `OUT_OF_MEMORY`.
 #[unsafe(no_mangle)]
 pub extern "C" fn fiorrudda_known_host(
     alloc: Global,

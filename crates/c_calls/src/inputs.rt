@@ -151,8 +151,9 @@ fn tell_reply(answer: Option<Reply>, reply: &mut u32)
 /// the book hold a lock of their own around the call, as around each that is given the book.
 ///
 /// `OK`; `NOT_AWAITED` where the act asks no book, and then the fetch stands where it stood and the book is as it was;
-/// `WRONG_HANDLE`; `OUT_OF_MEMORY`, and then the fetch is gone: its act is `ACT_GONE`. The book is then as it was, or
-/// as it is after the call. But for `OK` nothing is written to `reply`.
+/// `WRONG_HANDLE`; `OUT_OF_MEMORY`, and then the fetch is gone: its act is `ACT_GONE`. Where the book did what it was
+/// asked before memory was refused, the reply is told; else the book is as it was, and nothing is written to `reply`.
+/// So is it with the other codes.
 #[unsafe(no_mangle)]
 pub extern "C" fn fiorrudda_ask(
     alloc: Global,

@@ -1,7 +1,7 @@
 -- The request that rules look at: what a client asks for, and perhaps after a redirect.
-use Rattle.std.specs.Prelude.{◌==◌, ◌&&◌, [], length, nat_lt, Result, Ok, Err, if◌then◌else◌}
-use Rattle.c_checks.specs.Words.{Asked, Head, NoRequest, Parts, Refusal, Request, Setup, Text, TypeFault, and_then}
-use Rattle.c_checks.specs.Words.{current_url, is_http_url, most_redirects, redirected_request, request_for, web_url_in}
+use Rattle.std.specs.Prelude.{◌==◌, ◌&&◌, length, nat_lt, Result, Ok, Err, if◌then◌else◌}
+use Rattle.c_checks.specs.Words.{Asked, NoRequest, Parts, Refusal, Request, Setup, Text, TypeFault, and_then}
+use Rattle.c_checks.specs.Words.{current_url, is_http_url, most_redirects, moved_to, request_for, web_url_in}
 
 -- a request, or none
 abbrev pub request_or_refusal : Result Request TypeFault → Result Request Refusal
@@ -12,15 +12,12 @@ request_or_refusal (Err fault) = Err NoRequest
 abbrev pub request_of : Setup → Asked → Result Request Refusal
 request_of settings asked = request_or_refusal (request_for settings asked)
 
--- the head of a redirect that keeps the method
-abbrev pub plain_redirect : Head
-plain_redirect = record { status = 307; headers = [] }
-
--- the request after such a redirect to a URL, which a request at an http or https URL can follow
+-- the request after a redirect to a URL that keeps its method and names no policy, which a request at an http or https
+-- URL can follow
 abbrev pub redirected_to : Request → Parts → Result Request Refusal
 redirected_to request url =
     if is_http_url (current_url request) && nat_lt request.redirects most_redirects
-    then Ok (redirected_request request plain_redirect url) else Err NoRequest
+    then Ok (moved_to url request) else Err NoRequest
 
 -- the request after such a redirect to the URL that a text gives; an empty text stands for no redirect
 abbrev pub redirected_by : Text → Request → Result Request Refusal

@@ -7,7 +7,7 @@ pub use Rattle.c_rules.specs.Answers.{and_then}
 pub use Rattle.c_rules.specs.Reading.{web_url_in}
 pub use Rattle.c_rules.specs.declared.refusal.Refusal.{Refusal}
 pub use Rattle.c_rules.specs.declared.refusal.Refusal.TheVariants.{NoRequest, NotHttp}
-pub use Rattle.fetch_answers.specs.Following.{redirected_request}
+pub use Rattle.fetch_answers.specs.Following.{moved_to}
 pub use Rattle.fetch_rules.specs.Referrers.{with_referrer}
 pub use Rattle.fetch_rules.specs.Switch.{switch_of, with_tainting}
 pub use Rattle.fetch_rules.specs.declared.switch.Switch.{Switch}

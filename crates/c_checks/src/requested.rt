@@ -6,12 +6,11 @@ ghost use Rattle.value_requests.specs.Requests.{IsRequest};
 
 use c_fetch::{Asked, Settings, requested};
 use c_rules::{Refusal, read_web_url};
-use fetch_answers::redirected;
+use fetch_answers::moved_to;
 use fetch_rules::is_at_http;
 use std::alloc::Global;
 use url::Url;
-use value_headers::HeaderList;
-use value_requests::{Head, MOST_REDIRECTS, Request};
+use value_requests::{MOST_REDIRECTS, Request};
 
 /// The request that a client makes of what is asked for (Fetch, sections 5.4 and 5.6; HTML, section 2.5.1).
 /// `NoRequest` where none can be made of it.
@@ -26,7 +25,7 @@ pub fn request_of(alloc: Global, settings: &Settings, asked: &Asked) -> Result<R
 }
 
 // The request after a redirect to a URL that keeps its method.
-fn redirected_to(alloc: Global, request: Request, url: Url) -> Result<Request, Refusal>
+fn redirected_to(request: Request, url: Url) -> Result<Request, Refusal>
     requires { IsRequest request }
     ensures told { IsUnlessMemory result (spec.redirected_to request url) }
     ensures valid { IfOk result IsRequest }
@@ -34,11 +33,7 @@ fn redirected_to(alloc: Global, request: Request, url: Url) -> Result<Request, R
     if !is_at_http(&request) || request.redirects >= MOST_REDIRECTS {
         return Err(Refusal::NoRequest);
     }
-    let head = Head {
-        status: 307,
-        headers: HeaderList::new(alloc),
-    };
-    Ok(redirected(alloc, request, &head, url)?)
+    Ok(moved_to(request, url)?)
 }
 
 // The request, or after a redirect to the URL that a text gives, where it is not empty.
@@ -51,11 +46,11 @@ fn redirected_by(alloc: Global, request: Request, redirect: &[u8]) -> Result<Req
         return Ok(request);
     }
     let url = read_web_url(alloc, redirect)?;
-    redirected_to(alloc, request, url)
+    redirected_to(request, url)
 }
 
-/// The request that a client makes of what is asked for, and after a redirect to a URL by a status that keeps its
-/// method, as 307 (Fetch, "HTTP-redirect fetch"); an empty text stands for no redirect. `NoRequest` where none can be
+/// The request that a client makes of what is asked for, and after a redirect to a URL that keeps its method and names no
+/// policy (Fetch, "HTTP-redirect fetch"); an empty text stands for no redirect. `NoRequest` where none can be
 /// made of what is asked for, or its URL is neither http nor https, so that nothing redirects it; `NotUrl` or `NotHttp`
 /// of the URL.
 pub fn request_at(

@@ -3,16 +3,17 @@ use Rattle.std.specs.Prelude.{◌≡◌, ℕ, Bool, true, false, drop, length, n
 use Rattle.std.specs.Prelude.{Option, Some, None, Result, Ok, Err, if◌then◌else◌}
 use Rattle.value_text.specs.Texts.{Text}
 use Rattle.c_handle.specs.declared.codes.TheConstants.{OK, NO, OUT_OF_MEMORY, TOO_SHORT, NOT_A_URL, NOT_HTTP}
-use Rattle.c_handle.specs.declared.codes.TheConstants.{NOT_A_HEADER, NOT_AWAITED, NO_REQUEST, NO_SUCH_NUMBER}
+use Rattle.c_handle.specs.declared.codes.TheConstants.{NOT_A_HEADER, NOT_A_HOST, NOT_AWAITED, NO_REQUEST, NO_SUCH_NUMBER}
 use Rattle.c_handle.specs.declared.codes.TheConstants.{TOO_LATE, WRONG_HANDLE}
 use Rattle.c_rules.specs.declared.refusal.Refusal.{Refusal}
 use Rattle.c_rules.specs.declared.refusal.Refusal.TheVariants.{OutOfMemory, NotUrl, NotHttp, NotHeader, TooLate}
-use Rattle.c_rules.specs.declared.refusal.Refusal.TheVariants.{NoRequest}
+use Rattle.c_rules.specs.declared.refusal.Refusal.TheVariants.{NoRequest, NotHost}
 
 -- the numbers of the codes
 abbrev pub AreNumbered : Type 0
 AreNumbered = (OK ≡ 0) × (NO ≡ 1) × (WRONG_HANDLE ≡ 2) × (OUT_OF_MEMORY ≡ 3) × (TOO_SHORT ≡ 4) × (NO_SUCH_NUMBER ≡ 5)
     × (NOT_A_URL ≡ 6) × (NOT_HTTP ≡ 7) × (NOT_A_HEADER ≡ 8) × (TOO_LATE ≡ 9) × (NOT_AWAITED ≡ 10) × (NO_REQUEST ≡ 11)
+    × (NOT_A_HOST ≡ 12)
 
 -- the code of a refusal
 abbrev pub code_of : Refusal → ℕ
@@ -22,6 +23,7 @@ code_of NotHttp = NOT_HTTP
 code_of NotHeader = NOT_A_HEADER
 code_of TooLate = TOO_LATE
 code_of NoRequest = NO_REQUEST
+code_of NotHost = NOT_A_HOST
 
 -- whether it holds
 abbrev pub yes_or_no : Bool → ℕ

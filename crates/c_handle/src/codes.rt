@@ -6,13 +6,11 @@ pub const OK: u32 = 0;
 /// It does not hold; it does not pass; there is none.
 pub const NO: u32 = 1;
 
-/// A handle holds nothing of the kind that the call is for. Nothing is changed, but that a handle in which the call
-/// makes something is empty.
+/// A handle holds nothing of the kind that the call is for. Nothing is changed.
 pub const WRONG_HANDLE: u32 = 2;
 
-/// Memory was refused. What handles hold is as it was, but that a handle in which the call makes something is empty,
-/// that a fetch which was told something is gone, and that a book which was asked may have taken the call. No answer is
-/// written.
+/// Memory was refused. What handles hold is as it was, except that a fetch which was told something is gone, and that a
+/// book which a fetch asked may have done what it was asked: then its reply is told. No other answer is written.
 pub const OUT_OF_MEMORY: u32 = 3;
 
 /// The room for the answer is too short. Nothing is written but how many bytes the answer has.
@@ -38,3 +36,6 @@ pub const NOT_AWAITED: u32 = 10;
 
 /// No request can be made of what is asked for; `fiorrudda_fetch` tells why.
 pub const NO_REQUEST: u32 = 11;
+
+/// A host is no domain as a URL has it, or a localhost name: it is never known.
+pub const NOT_A_HOST: u32 = 12;

@@ -89,14 +89,14 @@ impl Handle {
         drop(self.take(alloc));
     }
 
-    /// Frees what the handle holds, and has it hold this thing, unless memory is refused.
+    /// Has the handle hold this thing, and frees what it held. Where memory is refused it holds what it held.
     pub fn fill(&mut self, alloc: Global, thing: Thing) -> u32
         ensures ok { result ≡ OK → self.new.held ≡ Some thing }
-        ensures out_of_memory { result ≢ OK → (result ≡ OUT_OF_MEMORY) × (self.new.held ≡ None) }
+        ensures out_of_memory { result ≢ OK → (result ≡ OUT_OF_MEMORY) × (self.new.held ≡ self.old.held) }
     {
-        self.clear(alloc);
         match Box::new(alloc, thing) {
             Ok(thing) => {
+                self.clear(alloc);
                 self.put(thing);
                 OK
             }

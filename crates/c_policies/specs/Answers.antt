@@ -24,22 +24,25 @@ tainting_numbered number =
     else if number == 2 then Some Opaque
     else None
 
--- the handle holds the headers that the page sees, or is empty
-abbrev pub Shows : Result Response Refusal → ℕ → Option Thing → ℕ → ℕ → Type 0
-Shows (Ok response) code held seen_before seen =
+-- the handle holds the headers that the page sees, or what it held
+abbrev pub Shows : Result Response Refusal → ℕ → Option Thing → Option Thing → ℕ → ℕ → Type 0
+Shows (Ok response) code before held seen_before seen =
     (code ≡ OK) × (held ≡ Some (thing.Headers response.headers)) × (seen ≡ response.status)
-Shows (Err refusal) code held seen_before seen = (code ≡ code_of refusal) × (held ≡ None) × (seen ≡ seen_before)
+Shows (Err refusal) code before held seen_before seen =
+    (code ≡ code_of refusal) × (held ≡ before) × (seen ≡ seen_before)
 
 -- nothing is shown
-abbrev pub IsHidden : ℕ → ℕ → Option Thing → ℕ → ℕ → Type 0
-IsHidden expected code held seen_before seen = (code ≡ expected) × (held ≡ None) × (seen ≡ seen_before)
+abbrev pub IsHidden : ℕ → ℕ → Option Thing → Option Thing → ℕ → ℕ → Type 0
+IsHidden expected code before held seen_before seen = (code ≡ expected) × (held ≡ before) × (seen ≡ seen_before)
 
-abbrev pub ShowsOf : Tainting → ℕ → Option ((Setup × Asked) × List Header) → ℕ → Option Thing → ℕ → ℕ → Type 0
+abbrev pub ShowsOf :
+    Tainting → ℕ → Option ((Setup × Asked) × List Header) → ℕ → Option Thing → Option Thing → ℕ → ℕ → Type 0
 ShowsOf tainting status None = IsHidden WRONG_HANDLE
 ShowsOf tainting status (Some it) = Shows (seen_response it.0.0 it.0.1 tainting (head_of status it.1))
 
 abbrev pub ShowsBy :
-    Option Tainting → ℕ → Option Thing → Option Thing → Option Thing → ℕ → Option Thing → ℕ → ℕ → Type 0
+    Option Tainting → ℕ → Option Thing → Option Thing → Option Thing → ℕ → Option Thing → Option Thing → ℕ → ℕ
+    → Type 0
 ShowsBy None status client request headers = IsHidden NO_SUCH_NUMBER
 ShowsBy (Some tainting) status client request headers =
     ShowsOf tainting status (both (both (held_client client) (held_request request)) (held_headers headers))

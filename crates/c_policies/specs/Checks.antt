@@ -41,21 +41,23 @@ check_numbered number =
     else if number == 2 then Some Response
     else None
 
--- the handle holds what was found, or is empty
-abbrev pub HasFound : Result (List Violation) Refusal → ℕ → Option Thing → Type 0
-HasFound (Ok found) code held =
+-- the handle holds what was found, or what it held
+abbrev pub HasFound : Result (List Violation) Refusal → ℕ → Option Thing → Option Thing → Type 0
+HasFound (Ok found) code before held =
     (code ≡ yes_or_no (length found == 0)) × (held ≡ Some (thing.Violations found))
-HasFound (Err refusal) code held = (code ≡ code_of refusal) × (held ≡ None)
+HasFound (Err refusal) code before held = (code ≡ code_of refusal) × (held ≡ before)
 
 -- no check was made
-abbrev pub IsUnchecked : ℕ → ℕ → Option Thing → Type 0
-IsUnchecked expected code held = (code ≡ expected) × (held ≡ None)
+abbrev pub IsUnchecked : ℕ → ℕ → Option Thing → Option Thing → Type 0
+IsUnchecked expected code before held = (code ≡ expected) × (held ≡ before)
 
-abbrev pub HasFoundOf : Check → Option ((List Policy × Setup) × Asked) → Text → ℕ → Option Thing → Type 0
+abbrev pub HasFoundOf :
+    Check → Option ((List Policy × Setup) × Asked) → Text → ℕ → Option Thing → Option Thing → Type 0
 HasFoundOf check None redirect = IsUnchecked WRONG_HANDLE
 HasFoundOf check (Some it) redirect = HasFound (violations_of check it.0.0 it.0.1 it.1 redirect)
 
-abbrev pub HasFoundBy : Option Check → Option Thing → Option Thing → Option Thing → Text → ℕ → Option Thing → Type 0
+abbrev pub HasFoundBy :
+    Option Check → Option Thing → Option Thing → Option Thing → Text → ℕ → Option Thing → Option Thing → Type 0
 HasFoundBy None policies client request = λ redirect. IsUnchecked NO_SUCH_NUMBER
 HasFoundBy (Some check) policies client request =
     HasFoundOf check (both (both (held_policies policies) (held_client client)) (held_request request))

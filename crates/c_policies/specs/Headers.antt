@@ -31,12 +31,12 @@ IsExposedName include at held = TextBy (held_headers held) (λ list. exposed_nam
 
 -- ---- policies
 
--- the handle holds the policies of the list, or is empty
-abbrev pub HasPoliciesOf : Option (List Header) → ℕ → Option Thing → Type 0
-HasPoliciesOf None code held = (code ≡ WRONG_HANDLE) × (held ≡ None)
-HasPoliciesOf (Some list) code held = (code ≡ OK) × (held ≡ Some (thing.Policies (policies_in list)))
+-- the handle holds the policies of the list, or what it held
+abbrev pub HasPoliciesOf : Option (List Header) → ℕ → Option Thing → Option Thing → Type 0
+HasPoliciesOf None code before held = (code ≡ WRONG_HANDLE) × (held ≡ before)
+HasPoliciesOf (Some list) code before held = (code ≡ OK) × (held ≡ Some (thing.Policies (policies_in list)))
 
-abbrev pub HasPolicies : Option Thing → ℕ → Option Thing → Type 0
+abbrev pub HasPolicies : Option Thing → ℕ → Option Thing → Option Thing → Type 0
 HasPolicies headers = HasPoliciesOf (held_headers headers)
 
 -- an enforced policy has `upgrade-insecure-requests`

@@ -1,5 +1,5 @@
 // What a page sees of an answer, and which answers are blocked for their MIME type.
-ghost use Rattle.std.specs.Prelude.{◌≡◌, ◌≢◌, None};
+ghost use Rattle.std.specs.Prelude.{◌≡◌, ◌≢◌};
 ghost use Rattle.c_checks.specs.Answers as answers;
 ghost use Rattle.c_policies.specs.Answers as spec;
 ghost use Rattle.c_policies.specs.Answers.{Shows, ShowsBy};
@@ -33,7 +33,7 @@ fn tainting_numbered(number: u32) -> Option<Tainting>
     }
 }
 
-// Makes in a handle that is empty what is seen of a header list.
+// Makes in a handle what is seen of a header list.
 fn shown(
     alloc: Global,
     filtered: &mut Handle,
@@ -44,10 +44,9 @@ fn shown(
     tainting: Tainting,
     seen: &mut u32,
 ) -> u32
-    requires { filtered.old.held ≡ None }
     ensures told { result ≢ OUT_OF_MEMORY → Shows (answers.seen_response settings.now asked.now tainting
-        (head_of status list.now)) result filtered.new.held seen.old seen.new }
-    ensures out_of_memory { result ≡ OUT_OF_MEMORY → (filtered.new.held ≡ None) × (seen.new ≡ seen.old) }
+        (head_of status list.now)) result filtered.old.held filtered.new.held seen.old seen.new }
+    ensures out_of_memory { result ≡ OUT_OF_MEMORY → (filtered.new.held ≡ filtered.old.held) × (seen.new ≡ seen.old) }
 {
     match seen_response(alloc, settings, asked, tainting, status, list) {
         Err(refusal) => code_of(refusal),
@@ -67,10 +66,10 @@ fn shown(
 /// Makes in a handle the header list that a page sees of an answer to its request, and tells in `seen` the status that
 /// it sees: those of the filtered response by one of the numbers `TAINTING_..` (Fetch, section 2.2.6). Basic hides
 /// Set-Cookie; of CORS the safelisted and the exposed headers are seen, by the request's credentials mode; of opaque
-/// nothing, and its status is 0, as that of an opaque-redirect filtered response. What the handle held is freed first.
+/// nothing, and its status is 0, as that of an opaque-redirect filtered response. What the handle held is freed.
 ///
 /// `OK`; `NO_SUCH_NUMBER`; `WRONG_HANDLE`, of the client, the request or the header list; `NO_REQUEST` where none can
-/// be made of what is asked for; `OUT_OF_MEMORY`. The handle is empty but for `OK`, and but for `OK` nothing is
+/// be made of what is asked for; `OUT_OF_MEMORY`. Except for `OK` the handle holds what it held, and nothing is
 /// written.
 #[unsafe(no_mangle)]
 pub extern "C" fn fiorrudda_filtered(
@@ -84,13 +83,12 @@ pub extern "C" fn fiorrudda_filtered(
     seen: &mut u32,
 ) -> u32
     ensures told { result ≢ OUT_OF_MEMORY → ShowsBy (spec.tainting_numbered tainting) status client.old.held
-        request.old.held headers.old.held result filtered.new.held seen.old seen.new }
-    ensures out_of_memory { result ≡ OUT_OF_MEMORY → (filtered.new.held ≡ None) × (seen.new ≡ seen.old) }
+        request.old.held headers.old.held result filtered.old.held filtered.new.held seen.old seen.new }
+    ensures out_of_memory { result ≡ OUT_OF_MEMORY → (filtered.new.held ≡ filtered.old.held) × (seen.new ≡ seen.old) }
     ensures client { client.new.held ≡ client.old.held }
     ensures request { request.new.held ≡ request.old.held }
     ensures headers { headers.new.held ≡ headers.old.held }
 {
-    filtered.clear(alloc);
     let Some(tainting) = tainting_numbered(tainting) else {
         return NO_SUCH_NUMBER;
     };

@@ -1,5 +1,5 @@
 // What is asked of a request before it is sent.
-ghost use Rattle.std.specs.Prelude.{◌≡◌, ◌≢◌, None};
+ghost use Rattle.std.specs.Prelude.{◌≡◌, ◌≢◌};
 ghost use Rattle.c_checks.specs.Checks as checks;
 ghost use Rattle.c_policies.specs.Checks as spec;
 ghost use Rattle.c_policies.specs.Checks.{HasFound, HasFoundBy};
@@ -87,7 +87,7 @@ fn check_numbered(number: u32) -> Option<Check>
     }
 }
 
-// Makes in a handle that is empty the violations of policies.
+// Makes in a handle the violations of policies.
 fn found(
     alloc: Global,
     violations: &mut Handle,
@@ -97,10 +97,9 @@ fn found(
     asked: &Asked,
     redirect: &[u8],
 ) -> u32
-    requires { violations.old.held ≡ None }
     ensures told { result ≢ OUT_OF_MEMORY → HasFound (checks.violations_of check policies.now settings.now asked.now
-        redirect.now) result violations.new.held }
-    ensures out_of_memory { result ≡ OUT_OF_MEMORY → violations.new.held ≡ None }
+        redirect.now) result violations.old.held violations.new.held }
+    ensures out_of_memory { result ≡ OUT_OF_MEMORY → violations.new.held ≡ violations.old.held }
 {
     match violations_of(alloc, check, policies, settings, asked, redirect) {
         Err(refusal) => code_of(refusal),
@@ -119,11 +118,11 @@ fn found(
 /// `CHECK_..` (CSP 3, section 4.1, "should request be blocked by Content Security Policy?", "report Content Security
 /// Policy violations for request" and "should response to request be blocked by Content Security Policy?"). They are in
 /// the order of the policies. `redirect` is the URL to which the request was redirected, or empty. What the handle held
-/// is freed first.
+/// is freed.
 ///
 /// `OK` where nothing is violated; `NO` where something is; `NO_SUCH_NUMBER`; `WRONG_HANDLE`, of the policies, the
 /// client or the request; `NO_REQUEST` where none can be made of what is asked for, or nothing redirects it;
-/// `NOT_A_URL` and `NOT_HTTP`, of `redirect`; `OUT_OF_MEMORY`. The handle is empty but for `OK` and `NO`.
+/// `NOT_A_URL` and `NOT_HTTP`, of `redirect`; `OUT_OF_MEMORY`. Except for `OK` and `NO` the handle holds what it held.
 ///
 /// A response is blocked where one of the violations is enforced. The client's own policies are not asked. A request
 /// that a policy or Mixed Content upgrades is to be asked with its https URL.
@@ -138,13 +137,12 @@ pub extern "C" fn fiorrudda_check(
     check: u32,
 ) -> u32
     ensures told { result ≢ OUT_OF_MEMORY → HasFoundBy (spec.check_numbered check) policies.old.held client.old.held
-        request.old.held redirect.now result violations.new.held }
-    ensures out_of_memory { result ≡ OUT_OF_MEMORY → violations.new.held ≡ None }
+        request.old.held redirect.now result violations.old.held violations.new.held }
+    ensures out_of_memory { result ≡ OUT_OF_MEMORY → violations.new.held ≡ violations.old.held }
     ensures policies { policies.new.held ≡ policies.old.held }
     ensures client { client.new.held ≡ client.old.held }
     ensures request { request.new.held ≡ request.old.held }
 {
-    violations.clear(alloc);
     let Some(check) = check_numbered(check) else {
         return NO_SUCH_NUMBER;
     };

@@ -1,5 +1,5 @@
 // The policies of an answer.
-ghost use Rattle.std.specs.Prelude.{◌≡◌, ◌≢◌, None};
+ghost use Rattle.std.specs.Prelude.{◌≡◌, ◌≢◌};
 ghost use Rattle.c_policies.specs.Headers.{HasPolicies, upgrades_code};
 
 use c_checks::policies_in;
@@ -8,20 +8,19 @@ use std::alloc::Global;
 
 /// Makes in a handle the policies of a header list, parsed and read once (CSP 3, section 2.2, "parse a response's
 /// Content Security Policies"): those of Content-Security-Policy, which are enforced, and then those of
-/// Content-Security-Policy-Report-Only. They are numbered from 0 on in this order. What the handle held is freed first.
+/// Content-Security-Policy-Report-Only. They are numbered from 0 on in this order. What the handle held is freed.
 ///
-/// `OK`; `WRONG_HANDLE`, of the header list; `OUT_OF_MEMORY`. The handle is empty but for `OK`.
+/// `OK`; `WRONG_HANDLE`, of the header list; `OUT_OF_MEMORY`. Except for `OK` the handle holds what it held.
 #[unsafe(no_mangle)]
 pub extern "C" fn fiorrudda_policies(
     alloc: Global,
     policies: &mut Handle,
     headers: &mut Handle,
 ) -> u32
-    ensures told { result ≢ OUT_OF_MEMORY → HasPolicies headers.old.held result policies.new.held }
-    ensures out_of_memory { result ≡ OUT_OF_MEMORY → policies.new.held ≡ None }
+    ensures told { result ≢ OUT_OF_MEMORY → HasPolicies headers.old.held result policies.old.held policies.new.held }
+    ensures out_of_memory { result ≡ OUT_OF_MEMORY → policies.new.held ≡ policies.old.held }
     ensures headers { headers.new.held ≡ headers.old.held }
 {
-    policies.clear(alloc);
     let Some(list) = headers.headers() else {
         return WRONG_HANDLE;
     };

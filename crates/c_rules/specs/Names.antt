@@ -1,13 +1,12 @@
 -- Names of headers: those that a server is asked about first, those that it exposes, and those that no script may set.
-use Rattle.std.specs.Prelude.{ℕ, Bool, true, false, List, [], slice_get, Option, Result, Ok, Err}
+use Rattle.std.specs.Prelude.{ℕ, ◌&&◌, Bool, List, slice_get, Option, Result, Ok, Err, if◌then◌else◌}
 use Rattle.value_text.specs.Texts.{Text}
+use Rattle.value_text.specs.Tokens.{is_token}
+use Rattle.value_text.specs.Values.{is_header_value}
 use Rattle.policy_filter.specs.Exposed.{exposed_names}
 use Rattle.value_headers.specs.declared.headers.Header.{Header}
-use Rattle.policy_safelist.specs.Guards.{outcome}
+use Rattle.policy_safelist.specs.Forbidden.{is_forbidden_header}
 use Rattle.policy_safelist.specs.UnsafeNames.{unsafe_names}
-use Rattle.policy_safelist.specs.declared.guard.Appended.{Appended}
-use Rattle.policy_safelist.specs.declared.guard.Appended.TheVariants.{Kept, Ignored, BadName, BadValue}
-use Rattle.policy_safelist.specs.declared.guard.Guard.TheVariants.{Request}
 use Rattle.c_rules.specs.declared.refusal.Refusal.{Refusal}
 use Rattle.c_rules.specs.declared.refusal.Refusal.TheVariants.{NotHeader}
 
@@ -19,13 +18,7 @@ unsafe_name_at list at = Ok (slice_get (unsafe_names list) at)
 abbrev pub exposed_name_at : Bool → List Header → ℕ → Result (Option Text) Refusal
 exposed_name_at include list at = Ok (slice_get (exposed_names include list) at)
 
--- whether what comes of appending a header is that the guard ignores it
-abbrev pub ignored : Appended → Result Bool Refusal
-ignored Kept = Ok false
-ignored Ignored = Ok true
-ignored BadName = Err NotHeader
-ignored BadValue = Err NotHeader
-
--- "forbidden request-header", of a name and a value that are a header: the guard "request" ignores just these
+-- "forbidden request-header", of a name and a value that are a header
 abbrev pub is_forbidden : Text → Text → Result Bool Refusal
-is_forbidden name value = ignored (outcome Request name value [])
+is_forbidden name value =
+    if is_token name && is_header_value value then Ok (is_forbidden_header name value) else Err NotHeader

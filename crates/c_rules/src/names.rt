@@ -5,10 +5,10 @@ ghost use Rattle.c_rules.specs.Names as spec;
 
 use crate::refusal::Refusal;
 use policy_filter::exposed_names;
-use policy_safelist::{Appended, Guard, guarded_append, unsafe_names};
+use policy_safelist::{is_forbidden_header as is_forbidden, unsafe_names};
 use std::alloc::Global;
 use value_headers::HeaderList;
-use value_text::{Bytes, OutOfMemory};
+use value_text::{Bytes, OutOfMemory, is_token, is_value};
 
 // The text at an index, copied.
 fn text_at(alloc: Global, texts: &[Bytes], at: usize) -> Result<Option<Bytes>, OutOfMemory>
@@ -48,10 +48,8 @@ pub fn exposed_name_at(
 pub fn is_forbidden_header(alloc: Global, name: &[u8], value: &[u8]) -> Result<bool, Refusal>
     ensures { IsUnlessMemory result (spec.is_forbidden name.now value.now) }
 {
-    let mut none = HeaderList::new(alloc);
-    match guarded_append(alloc, &mut none, Guard::Request, name, value)? {
-        Appended::Kept => Ok(false),
-        Appended::Ignored => Ok(true),
-        Appended::BadName | Appended::BadValue => Err(Refusal::NotHeader),
+    if !(is_token(name) && is_value(value)) {
+        return Err(Refusal::NotHeader);
     }
+    Ok(is_forbidden(alloc, name, value)?)
 }

@@ -14,6 +14,8 @@ pub enum Refusal {
     NotHeader,
     /// A time is 2^48 seconds or more.
     TooLate,
+    /// A host is no domain as a URL has it, or a localhost name.
+    NotHost,
     /// No request can be made of what is asked for.
     NoRequest,
 }

@@ -6,10 +6,10 @@ use Rattle.std.proofs.lemmas.Grind.{common_steps}
 use Rattle.std.specs.Option.{option_or}
 use Rattle.std.specs.Prelude.{IsTrue}
 use Rattle.url.specs.Parts.{Parts}
-use Rattle.value_headers.specs.declared.extract.Extracted.TheVariants.{Items}
-use Rattle.value_headers.specs.declared.extract.Rule.TheVariants.{Single}
+use Rattle.value_lists.specs.declared.extract.Extracted.TheVariants.{Items}
+use Rattle.value_lists.specs.declared.extract.Rule.TheVariants.{Single}
 use Rattle.value_headers.specs.declared.headers.Header.{Header}
-use Rattle.value_headers.specs.Extract.{extracted, extracted_of}
+use Rattle.value_lists.specs.Extract.{extracted, extracted_of}
 use Rattle.value_headers.specs.Headers.{contains, is_named, values_of}
 use Rattle.value_requests.specs.declared.error.NetError.{NetError}
 use Rattle.value_requests.specs.declared.error.NetError.TheVariants.{Coding, CorsCheck, Corp, CspResponse, Mime}

@@ -2,7 +2,7 @@
 use Rattle.std.specs.Prelude.{Bool, false, not, ◌==◌, ◌&&◌, ◌||◌, List, length, codes, bytes_eq, Option, Some, None}
 use Rattle.std.specs.List.{list_any}
 use Rattle.value_text.specs.Texts.{Text}
-use Rattle.value_headers.specs.Split.{split_values}
+use Rattle.value_lists.specs.Split.{split_values}
 use Rattle.value_requests.specs.declared.hop.Head.{Head}
 use Rattle.value_requests.specs.declared.request.Request.{Request}
 use Rattle.value_requests.specs.Statuses.{is_null_body_status}

@@ -13,11 +13,11 @@ pub use Rattle.policy_filter.specs.Views.{is_error, is_manual, permitted_view}
 pub use Rattle.policy_integrity.specs.Matching.{matches}
 pub use Rattle.policy_integrity.specs.Metadata.{metadata_of}
 pub use Rattle.url.specs.Parts.{Parts, has_credentials}
-pub use Rattle.value_headers.specs.Extract.{extracted}
+pub use Rattle.value_lists.specs.Extract.{extracted}
 pub use Rattle.value_headers.specs.Headers.{without}
-pub use Rattle.value_headers.specs.declared.extract.Extracted.{Extracted}
-pub use Rattle.value_headers.specs.declared.extract.Extracted.TheVariants.{Absent, Items}
-pub use Rattle.value_headers.specs.declared.extract.Rule.TheVariants.{Single}
+pub use Rattle.value_lists.specs.declared.extract.Extracted.{Extracted}
+pub use Rattle.value_lists.specs.declared.extract.Extracted.TheVariants.{Absent, Items}
+pub use Rattle.value_lists.specs.declared.extract.Rule.TheVariants.{Single}
 pub use Rattle.value_headers.specs.declared.headers.Header.{Header}
 pub use Rattle.value_origins.specs.Origins.{have_same_origin, is_origin_of}
 pub use Rattle.value_origins.specs.declared.origin.Origin.{Origin}

@@ -4,6 +4,7 @@ ghost use Rattle.std.specs.List.{list_any};
 ghost use Rattle.fetch_answers.specs.Bodies as spec;
 
 use std::alloc::Global;
+use value_lists::split_values;
 use value_requests::{Head, Request, is_null_body_status};
 use value_text::{Bytes, OutOfMemory};
 
@@ -37,7 +38,7 @@ fn any_changes(codings: &[Bytes]) -> bool
 pub fn is_coded(alloc: Global, head: &Head) -> Result<bool, OutOfMemory>
     ensures { IfOk result (λ coded. coded ≡ spec.is_coded head.now) }
 {
-    let codings = head.headers.split_values(alloc, b"Content-Encoding")?;
+    let codings = split_values(alloc, &head.headers, b"Content-Encoding")?;
     Ok(match codings {
         None => false,
         Some(codings) => any_changes(codings.as_slice()),

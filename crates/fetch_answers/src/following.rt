@@ -118,21 +118,18 @@ pub fn redirect_request(
     go_to(url, request)
 }
 
-/// The request after the redirect of a head to a URL, as `redirect_request` makes it of the one that it is given. The
-/// only error is want of memory, with which the request is gone.
-pub fn redirected(
-    alloc: Global,
-    request: Request,
-    head: &Head,
-    url: Url,
-) -> Result<Request, OutOfMemory>
+/// The request after a redirect to a URL that keeps the method and names no policy (Fetch, "HTTP-redirect fetch", steps
+/// 13, 18 and 8): where the URL has another origin than the current URL, Authorization is deleted. The only error is want
+/// of memory.
+pub fn moved_to(request: Request, url: Url) -> Result<Request, OutOfMemory>
     requires request { IsRequest request }
     requires few { request.redirects < most_redirects }
     requires at_http { IsAtHttp request }
-    ensures value { IfOk result (λ next. next ≡ spec.redirected_request request head.now url) }
+    ensures value { IfOk result (λ next. next ≡ spec.moved_to url request) }
     ensures request { IfOk result IsRequest }
 {
     let mut next = request;
-    redirect_request(alloc, &mut next, head, url)?;
+    set_authorization_at(&url, &mut next);
+    go_to(url, &mut next)?;
     Ok(next)
 }

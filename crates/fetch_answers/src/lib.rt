@@ -13,7 +13,7 @@ mod redirects;
 pub use answers::{Ended, Redirection};
 pub use bodies::{has_null_body, is_coded};
 pub use endings::{after_body, ended};
-pub use following::{redirect_request, redirected};
+pub use following::{moved_to, redirect_request};
 pub use judging::{is_manual, is_to_follow, refusal_after};
 pub use laws::{law_ending, law_redirected, law_redirection, law_refusal};
 pub use redirects::redirection;

@@ -5,8 +5,8 @@ use Rattle.std.proofs.lemmas.Grind.{common_steps}
 use Rattle.std.proofs.lemmas.List.{length-map}
 use Rattle.std.proofs.Math.Nat.{mul-le-mul_right}
 use Rattle.std.specs.Prelude.{IfSome, ◌&&◌}
-use Rattle.value_headers.specs.declared.extract.Rule.TheVariants.{Digits, Tokens}
-use Rattle.value_headers.specs.Extract.{extracted}
+use Rattle.value_lists.specs.declared.extract.Rule.TheVariants.{Digits, Tokens}
+use Rattle.value_lists.specs.Extract.{extracted}
 use Rattle.value_origins.specs.declared.origin.Origin.{Origin}
 use Rattle.value_requests.specs.declared.error.NetError.{NetError}
 use Rattle.value_requests.specs.declared.error.NetError.TheVariants.{CspRequest, LinkFault, Scheme, TooManyRedirects}

@@ -14,9 +14,14 @@ use Rattle.fetch_requests.specs.Words.{normalized, outcome, then_some, unless_lo
 
 -- ---- the URL
 
+-- the most bytes that the text of a URL has (this project's own)
+abbrev pub most_url_text : ℕ
+most_url_text = 786432
+
 -- the URL that a text gives against the client's
 abbrev pub url_given : Client → Text → Option Parts
-url_given client text = unless_long (url_against client.url text)
+url_given client text =
+    if nat_lt most_url_text (length text) then None else unless_long (url_against client.url text)
 
 -- ---- the faults
 

@@ -14,7 +14,10 @@ use value_requests::{
 };
 use value_text::{Bytes, OutOfMemory, copy_of};
 
-// The URL that a text gives against the client's, unless its own text is too long.
+// How many bytes the text of a URL has at most.
+const MOST_URL_TEXT: usize = 786_432;
+
+// The URL that a text gives against the client's, unless the one or the other is too long.
 pub(crate) fn url_given(
     alloc: Global,
     client: &Client,
@@ -22,6 +25,9 @@ pub(crate) fn url_given(
 ) -> Result<Option<Url>, OutOfMemory>
     ensures { IfOk result (λ url. url ≡ spec.url_given client.now text.now) }
 {
+    if text.len() > MOST_URL_TEXT {
+        return Ok(None);
+    }
     Ok(unless_long(url_against(alloc, &client.url, text)?))
 }
 
@@ -81,8 +87,8 @@ fn made(
 /// The request that a script's `fetch` makes for a client, or its first fault (Fetch, sections 5.4
 /// and 5.6). Faults are looked for in this order:
 ///
-/// 1. `BadUrl`: the URL's text is not UTF-8, gives no URL against the client's, or gives one whose
-///    text has more than 8,192 bytes.
+/// 1. `BadUrl`: the URL's text has more than 786,432 bytes, is not UTF-8, gives no URL against the client's, or gives
+///    one whose text has more than 8,192 bytes.
 /// 2. `UrlCredentials`: the URL has a user name or a password.
 /// 3. `BadMethod`: the method is no token.
 /// 4. `ForbiddenMethod`: it is CONNECT, TRACE or TRACK, in any ASCII case.

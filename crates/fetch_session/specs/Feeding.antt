@@ -1,16 +1,17 @@
 -- What bytes of an answer come to for a fetch that reads them, and what the end of the answer and a failure do.
-use Rattle.std.specs.Prelude.{◌≡◌, ℕ, ◌-◌, ◌^◌, Bool, true, false, length, min, Option, Some, None}
+use Rattle.std.specs.Prelude.{◌≡◌, ◌⊎◌, ℕ, ◌-◌, ◌^◌, Bool, true, false, length, min, Option, Some, None}
 use Rattle.value_text.specs.Texts.{Text}
 use Rattle.fetch_acts.specs.declared.act.Act.{Act}
 use Rattle.fetch_acts.specs.declared.act.Act.TheVariants.{ReadBody, ReadHead, Send}
 use Rattle.fetch_acts.specs.declared.act.Input.{Input}
 use Rattle.fetch_acts.specs.declared.act.Input.TheVariants.{BodyIs, Fault, HeadBad, HeadIs, HeadLong}
-use Rattle.link_http1.specs.Bodies.{body_end}
+use Rattle.link_http1.specs.Bodies.{IsDecided, IsOpen, body_end}
 use Rattle.link_http1.specs.BodyFeeding as bodies
 use Rattle.link_http1.specs.BodyReading.{BodyReading}
 use Rattle.link_http1.specs.HeadFeeding as heads
 use Rattle.link_http1.specs.declared.body.BodyStep.{BodyStep}
 use Rattle.link_http1.specs.declared.body.BodyStep.TheVariants as body
+use Rattle.link_http1.specs.declared.framing.Framing.{Framing}
 use Rattle.link_http1.specs.declared.head.HeadStep.{HeadStep}
 use Rattle.link_http1.specs.declared.head.HeadStep.TheVariants as head
 use Rattle.value_requests.specs.declared.response.BodyEnd.{BodyEnd}
@@ -103,15 +104,32 @@ count_of (end.Cut count) = count
 count_of (end.Whole bytes) = min (length bytes) (2 ^ 32 - 1)
 count_of _ = 0
 
--- what it comes to where the connection fails here: a body broke off after as many bytes as came
-abbrev pub at_fault : Option Act → Standing → Input
-at_fault (Some ReadBody) standing = BodyIs (end.Fault (count_of (end_here standing)))
-at_fault _ standing = Fault
+-- What a failure comes to while a body is read of which these bytes came: the end that they decide; or they decide
+-- none, and the body broke off after as many bytes as it would have, had the answer ended there.
+abbrev pub FailsReading : Framing → ℕ → Text → Input → Type 0
+FailsReading how limit bytes input =
+    ((last : BodyEnd) × IsDecided how limit bytes last × (input ≡ BodyIs last))
+    ⊎ (IsOpen how limit bytes × (input ≡ BodyIs (end.Fault (count_of (body_end how limit bytes)))))
+
+-- what it comes to where the connection fails here
+abbrev pub FailsAt : Option Act → Standing → Input → Type 0
+FailsAt (Some ReadBody) standing input =
+    FailsReading standing.bodies.framing standing.bodies.limit standing.read input
+FailsAt _ standing input = input ≡ Fault
+
+-- the fetch goes on from such an input
+abbrev pub FailsTo : Option Standing → Option Standing → Type 0
+FailsTo (Some standing) next =
+    (input : Input) × FailsAt (first_act standing.process) standing input × (next ≡ Some (gone_on standing input))
+FailsTo None next = ⊥
 
 -- how a call went that tells of the end of the answer, where one is read
 abbrev pub Ends : Option Standing → Went → Option Standing → Type 0
 Ends = Goes reads (λ standing. at_end (first_act standing.process) standing)
 
--- how a call went that tells of a failure of the connection, where one is used
+-- How a call went that tells of a failure of the connection: the fetch goes on, where one is used; or nothing is changed
+-- where none is; or memory was refused, and the fetch is gone.
 abbrev pub Fails : Option Standing → Went → Option Standing → Type 0
-Fails = Goes may_fail (λ standing. at_fault (first_act standing.process) standing)
+Fails old went.On next = (may_fail old ≡ true) × FailsTo old next
+Fails old went.NotAwaited next = (may_fail old ≡ false) × (next ≡ old)
+Fails old went.OutOfMemory next = (may_fail old ≡ true) × (next ≡ None)

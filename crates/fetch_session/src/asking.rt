@@ -1,32 +1,15 @@
 // The shared book is asked.
-ghost use Rattle.std.specs.Prelude.{◌≡◌, ◌↔◌, IfOk, IsTrue, None, OnErr, OnOk};
-ghost use Rattle.book_calls.specs.Book.{after, reply};
-ghost use Rattle.book_calls.specs.Ops.{InRange};
+ghost use Rattle.std.specs.Prelude.{◌≡◌, None};
 ghost use Rattle.fetch_session.specs.Asking as spec;
-ghost use Rattle.fetch_session.specs.Asking.{BookAfter, reply_told, reply_where};
+ghost use Rattle.fetch_session.specs.Asking.{BookAfter};
 ghost use Rattle.fetch_session.specs.Sessions.{act_of, standing_of};
 
 use crate::session::{Session, Waiting, Went};
-use book_calls::{Book, Op, Reply};
+use book_calls::{Book, Reply};
 use fetch_acts::{Act, Input};
 use std::alloc::Global;
 
-// The first time, and the first age, that a book does not have.
-const LATEST: u64 = 281_474_976_710_656;
-
-// Whether an operation is in range: its time and a noted age are below 2^48, and a lesson's age is at most 7,200.
-fn is_in_range(op: &Op) -> bool
-    ensures value { result ≡ spec.is_in_range op.now }
-    ensures range { IsTrue result ↔ InRange op.now }
-{
-    match op {
-        Op::Match(_, now) | Op::Covers(_, now) | Op::Clear(_, _, _, now) => *now < LATEST,
-        Op::Note(_, sts, now) => *now < LATEST && sts.age < LATEST,
-        Op::Learn(lesson, now) => *now < LATEST && lesson.age <= 7_200,
-    }
-}
-
-/// What a call of the book came to: how the call went, and what the book replied, if it was asked.
+/// What a call of the book came to: how the call went, and what the book replied, if it did what it was asked.
 #[derive(Clone, Copy, Debug, PartialEq, Eq)]
 pub struct Replied {
     pub went: Went,
@@ -40,37 +23,22 @@ fn unanswered(went: Went) -> Replied
     Replied { went, reply: None }
 }
 
-// The reply came, unless memory was refused behind it.
-fn answered(went: Went, reply: Reply) -> Replied
-    ensures went { result.went ≡ went }
-    ensures reply { result.reply ≡ reply_where went reply }
-{
-    match went {
-        Went::On => Replied {
-            went,
-            reply: Some(reply),
-        },
-        Went::NotAwaited | Went::OutOfMemory => Replied { went, reply: None },
-    }
-}
-
 impl Session {
     /// Whether the book is to be asked.
     pub fn asks(&self) -> bool
         ensures { result ≡ spec.asks (standing_of self.now) }
     {
         match self.act() {
-            Some(Act::Ask(op)) => is_in_range(op.get()),
+            Some(Act::Ask(op)) => op.get().is_in_range(),
             _ => false,
         }
     }
 
-    /// Asks the book what the act asks it for. Where memory is refused the fetch is gone, and the book is as it was or
-    /// as it is after the operation.
+    /// Asks the book what the act asks it for. Where memory is refused the fetch is gone; the book is as it is after the
+    /// operation where there is a reply, and else as it was.
     pub fn ask(&mut self, alloc: Global, book: &mut Book) -> Replied
         ensures went { spec.Asks book.old (standing_of self.old) result.went (standing_of self.new) }
-        ensures book { BookAfter (act_of (standing_of self.old)) result.went book.old book.new }
-        ensures reply { result.reply ≡ reply_told result.went book.old (act_of (standing_of self.old)) }
+        ensures book { BookAfter (act_of (standing_of self.old)) result.went book.old book.new result.reply }
     {
         if !self.asks() {
             return unanswered(Went::NotAwaited);
@@ -89,10 +57,10 @@ impl Session {
             return unanswered(Went::NotAwaited);
         };
         match book.apply(alloc, op.get()) {
-            Ok(reply) => answered(
-                self.go_on(alloc, fetching, bodies, Input::Replied(reply)),
-                reply,
-            ),
+            Ok(reply) => Replied {
+                went: self.go_on(alloc, fetching, bodies, Input::Replied(reply)),
+                reply: Some(reply),
+            },
             Err(_) => unanswered(Went::OutOfMemory),
         }
     }

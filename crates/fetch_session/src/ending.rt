@@ -1,12 +1,13 @@
 // An answer ends, or a connection fails.
 ghost use Rattle.std.specs.Prelude.{◌≡◌, true, IfOk, Some};
 ghost use Rattle.fetch_session.specs.Feeding as spec;
-ghost use Rattle.fetch_session.specs.Private.Endings.{end_of_reader, fault_of_reader};
+ghost use Rattle.fetch_session.specs.Private.Endings.{FailsReader, end_of_reader};
 ghost use Rattle.fetch_session.specs.Sessions.{standing_of};
 
 use crate::reading::{Reader, fitted};
 use crate::session::{Session, Waiting, Went};
 use fetch_acts::{Act, Input};
+use link_http1::{BodyReader, BodyStep};
 use std::alloc::Global;
 use value_requests::BodyEnd;
 use value_text::OutOfMemory;
@@ -32,13 +33,23 @@ fn input_at_end(alloc: Global, reader: Reader) -> Result<Input, OutOfMemory>
     }
 }
 
+// What comes where the connection fails while a body is read.
+fn body_at_fault(alloc: Global, reader: BodyReader) -> Result<Input, OutOfMemory>
+    ensures { IfOk result (spec.FailsReading reader.framing reader.limit reader.bytes) }
+{
+    match reader.feed(&[]) {
+        BodyStep::More(reader) => Ok(Input::BodyIs(BodyEnd::Fault(count_of(&reader.finish())))),
+        BodyStep::Over(end) => Ok(Input::BodyIs(fitted(alloc, end)?)),
+    }
+}
+
 // What comes where the connection fails here.
-fn input_at_fault(reader: Reader) -> Input
-    ensures { result ≡ fault_of_reader reader }
+fn input_at_fault(alloc: Global, reader: Reader) -> Result<Input, OutOfMemory>
+    ensures { IfOk result (FailsReader reader) }
 {
     match reader {
-        Reader::Body(reader) => Input::BodyIs(BodyEnd::Fault(count_of(&reader.finish()))),
-        Reader::Head(_) | Reader::Idle => Input::Fault,
+        Reader::Body(reader) => body_at_fault(alloc, reader),
+        Reader::Head(_) | Reader::Idle => Ok(Input::Fault),
     }
 }
 
@@ -76,7 +87,8 @@ impl Session {
         )
     }
 
-    /// The connection failed: the request could not be sent, or no more bytes can be received.
+    /// The connection failed: the request could not be sent, or no more bytes can be received. A body that is decided
+    /// by the bytes so far, as one of no length is, has the end that they decide.
     #[tactic(auto, using(crate::proofs::EndingLemmas::fault_suits))]
     pub fn failed(&mut self, alloc: Global) -> Went
         ensures { spec.Fails (standing_of self.old) result (standing_of self.new) }
@@ -94,6 +106,9 @@ impl Session {
             bodies,
         } = waiting;
         drop(act);
-        self.go_on(alloc, fetching, bodies, input_at_fault(reader))
+        match input_at_fault(alloc, reader) {
+            Ok(input) => self.go_on(alloc, fetching, bodies, input),
+            Err(_) => Went::OutOfMemory,
+        }
     }
 }

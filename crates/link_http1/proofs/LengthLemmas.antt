@@ -8,7 +8,7 @@ use Rattle.std.specs.Char.{is_ascii_digit}
 use Rattle.std.specs.List.{list_all}
 use Rattle.value_lemmas.proofs.Lists.{list_all-reverse}
 use Rattle.value_headers.specs.Headers.{combined}
-use Rattle.value_headers.specs.Split.{pieces, split}
+use Rattle.value_lists.specs.Split.{pieces, split}
 use Rattle.value_headers.specs.declared.headers.Header.{Header}
 use Rattle.value_text.specs.Digits.{capped_digits}
 use Rattle.value_text.specs.Trims.{tab_or_space, trimmed, trimmed_start}

@@ -9,7 +9,7 @@ use Rattle.value_text.specs.Digits.{writes}
 use Rattle.value_text.specs.Trims.{tab_or_space, trimmed}
 use Rattle.value_headers.specs.declared.headers.Header.{Header}
 use Rattle.value_headers.specs.Headers.{combined}
-use Rattle.value_headers.specs.Split.{split_values}
+use Rattle.value_lists.specs.Split.{split_values}
 use Rattle.value_requests.specs.declared.hop.Head.{Head}
 use Rattle.link_http1.specs.declared.framing.Framing.{Framing}
 use Rattle.link_http1.specs.declared.framing.Framing.TheVariants as framing

@@ -8,6 +8,7 @@ ghost use Rattle.link_http1.specs.Private.Lengths.{first_value, shortened};
 
 use std::alloc::Global;
 use value_headers::{Field, HeaderList};
+use value_lists::split_values;
 use value_requests::Head;
 use value_text::{
     BytesList, OutOfMemory, digits_at_most, eq_fold, parse_digits, trim_tab_or_space,
@@ -91,7 +92,7 @@ fn of_content_length(alloc: Global, headers: &HeaderList) -> Result<Framing, Out
     if let Some(length) = length_alone(headers) {
         return Ok(Framing::Length(length));
     }
-    match headers.split_values(alloc, b"Content-Length")? {
+    match split_values(alloc, headers, b"Content-Length")? {
         Some(texts) => Ok(of_lengths(&texts)),
         None => Ok(Framing::ToEnd),
     }

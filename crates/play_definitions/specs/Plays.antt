@@ -1,10 +1,10 @@
 -- A play of a scenario: one history of the shared book, and the run of each document over what its link answers and
 -- over the document's own entries of that history (this project's own; what a run does is script_runs's definition,
 -- what comes of its acts that of `Worlds`, and a fetch is the whole one, Fetch, section 4.1).
-use Rattle.std.specs.Prelude.{◌≡◌, ℕ, ◌+◌, ◌<◌, List, [], ◌∷◌, length, map, Option, Some, None}
+use Rattle.std.specs.Prelude.{◌≡◌, ℕ, ◌<◌, List, [], ◌∷◌, length, map, Option, Some, None}
 use Rattle.play_definitions.specs.Words.{AllByRecursion, Answering, Book, Document, EachDocument, Ending, Entry, Event}
 use Rattle.play_definitions.specs.Words.{KnownHost, Legal, Note, Play, Scenario, Server, Transcript, after, answer}
-use Rattle.play_definitions.specs.Words.{document_client, document_run, empty, entries_of}
+use Rattle.play_definitions.specs.Words.{HasTurnsFrom, document_client, document_run, empty, entries_of}
 use Rattle.play_definitions.specs.Playing.{RunPlayed}
 use Rattle.play_definitions.specs.Worlds.{Outside}
 
@@ -19,11 +19,6 @@ with_hosts (known ∷ more) book =
 -- the book that a play opens with
 abbrev pub opening_book : Scenario → Book
 opening_book scenario = with_hosts scenario.hosts empty
-
--- entry by entry, the turns are this number and those that follow it
-abbrev pub HasTurnsFrom : ℕ → List Entry → Type 0
-HasTurnsFrom turn [] = Unit {0}
-HasTurnsFrom turn (entry ∷ history) = (entry.turn ≡ turn) × HasTurnsFrom (turn + 1) history
 
 -- ---- documents
 

@@ -34,18 +34,18 @@ pub record HasSpent {State : Type 0} (old new : Standing State) : Type 0 where
 -- ---- one value that plays
 
 -- what its fetches have in common
-abbrev pub lent_setting : {R S : Type 0} → Lent R S → Setting
+abbrev pub lent_setting : {S : Type 0} → Lent S → Setting
 lent_setting lent = setting lent.client.now lent.policies.now lent.cookies.now
 
 -- what it goes by
-abbrev pub terms_of : {R S L P : Type 0} → (P → Account) → Player R S L P → Terms
+abbrev pub terms_of : {S L P : Type 0} → (P → Account) → Player S L P → Terms
 terms_of account player = record {
   setting = lent_setting player.lent.now;
   limit = player.lent.now.limit;
   document = (account player.pass.now).document;
 }
 
-module _ {R S L P State : Type 0} (account : P → Account) (told : L → LinkTold State) (player : Player R S L P) where
+module _ {S L P State : Type 0} (account : P → Account) (told : L → LinkTold State) (player : Player S L P) where
   -- the world outside
   abbrev pub world : World State
   world = world_of account told player.pass.now player.link.now player.wire.now
@@ -55,13 +55,13 @@ module _ {R S L P State : Type 0} (account : P → Account) (told : L → LinkTo
   standing = record { terms = terms_of account player; world = world; progress = player.running.now }
 
 -- The client is valid, and the pass is the share's.
-pub record IsReady {R S L P : Type 0} (belongs : S → P → Type 0) (player : Player R S L P) : Type 0 where
+pub record IsReady {S L P : Type 0} (belongs : S → P → Type 0) (player : Player S L P) : Type 0 where
   pub client : IsClient player.lent.now.client.now
   pub belongs_to : belongs player.lent.now.share.now player.pass.now
 
 -- What every call leaves as it was: what is lent, which pass, link, wire and run it is, the document and the opening
 -- book of the pass. The value is ready still.
-pub record Keeps {R S L P : Type 0} (account : P → Account) (belongs : S → P → Type 0) (old new : Player R S L P)
+pub record Keeps {S L P : Type 0} (account : P → Account) (belongs : S → P → Type 0) (old new : Player S L P)
     : Type 0 where
   pub lent : new.lent ≡ old.lent
   pub pass : new.pass.ghost_name ≡ old.pass.ghost_name

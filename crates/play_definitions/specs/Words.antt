@@ -2,7 +2,7 @@
 pub use Rattle.std.specs.List.{All, AllByRecursion, range_with_len}
 pub use Rattle.book_calls.specs.Accounts.{Account}
 pub use Rattle.book_calls.specs.Book.{after, empty}
-pub use Rattle.book_calls.specs.Entries.{Legal, entries_of}
+pub use Rattle.book_calls.specs.Entries.{HasTurnsFrom, Legal, entries_of}
 pub use Rattle.book_calls.specs.declared.book.Book.{Book}
 pub use Rattle.book_calls.specs.declared.entry.Entry.{Entry}
 pub use Rattle.book_calls.specs.declared.op.Op.{Op}

@@ -1,6 +1,5 @@
 // Who plays the fetches of a run.
 ghost use Rattle.std.specs.Prelude.{◌+◌, ◌<◌, ◌^◌, ◌≤◌};
-ghost use Rattle.std.specs.Thread.{IsSync};
 ghost use Rattle.play_definitions.specs.Fetched.{FetchCameTo};
 ghost use Rattle.play_definitions.specs.Standings.{IsReady, Keeps, lent_setting, standing, world};
 ghost use Rattle.play_definitions.specs.Words.{IsRequest, at_time, fetch, most_asks, over_link};
@@ -8,8 +7,6 @@ ghost use Rattle.play_definitions.specs.Words.{IsRequest, at_time, fetch, most_a
 use crate::player::Player;
 use book_calls::Share;
 use link_traits::Link;
-use std::sync::Wait;
-use std::thread::Threads;
 use value_places::Boxed;
 use value_requests::{Outcome, Request};
 use value_text::OutOfMemory;
@@ -19,13 +16,12 @@ pub trait Fetcher {
     /// Plays one fetch of a request inside a run, to its outcome, at a time in seconds (Fetch, section 4.1), over the
     /// wire as it is, which the caller hangs up. It makes 126 calls of the book at most. `OutOfMemory` where memory was
     /// refused: then the fetch came to some place, and an answer may be read in part.
-    fn fetch<R: Threads + Wait + Sync, S: Share, L: Link>(
+    fn fetch<S: Share, L: Link>(
         &self,
-        player: &mut Player<'_, '_, '_, '_, '_, R, S, L>,
+        player: &mut Player<'_, '_, '_, '_, '_, S, L>,
         request: Request,
         now: u64,
     ) -> Result<Boxed<Outcome>, OutOfMemory>
-        requires sync { IsSync R.row }
         requires ready { IsReady S.belongs player.old }
         requires request { IsRequest request }
         requires timely { now < 2 ^ 48 }

@@ -5,11 +5,13 @@
 mod fetch;
 mod fetcher;
 mod lent;
+mod played;
 mod player;
 mod seating;
 
 pub use fetch::FetchRun;
 pub use fetcher::Fetcher;
 pub use lent::Lent;
+pub use played::Played;
 pub use player::Player;
 pub use seating::Seating;

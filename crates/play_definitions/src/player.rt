@@ -9,8 +9,8 @@ use script_runs::Running;
 /// it, and how far its run has come. Contracts see where it stands (`standing`). It owns none of them, so that who
 /// makes one knows what it has left of each.
 #[derive(Drop)]
-pub struct Player<'a, 'p, 'l, 'w, 'r, R, S: Share, L: Link> {
-    pub lent: &'a Lent<'a, R, S>,
+pub struct Player<'a, 'p, 'l, 'w, 'r, S: Share, L: Link> {
+    pub lent: &'a Lent<'a, S>,
     pub pass: &'p mut S::Pass,
     pub link: &'l mut L,
     pub wire: &'w mut Wire,

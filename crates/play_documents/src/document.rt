@@ -11,16 +11,13 @@ ghost use Rattle.play_definitions.specs.Worlds.{KeepsPass, most_calls, outside};
 use book_calls::Share;
 use fetch_wire::Wire;
 use link_traits::Link;
-use play_definitions::{Lent, Player};
-use play_fetch::OverLink;
+use play_definitions::{Fetcher, Lent, Player};
 use play_script::script;
 use policy_csp::Compiled;
 use script_events::{Ending, Events, Transcript};
 use script_runs::Running;
 use script_scenarios::{Document, Scenario};
 use std::alloc::Global;
-use std::sync::Wait;
-use std::thread::Threads;
 use value_requests::Client;
 use value_text::{Bytes, OutOfMemory};
 
@@ -36,8 +33,9 @@ fn ended_by(played: Result<Option<Ending>, OutOfMemory>) -> Ending
 }
 
 // A document's script from the beginning to its ending, over a wire on which nothing is to come.
-fn play_script<R: Threads + Wait + Sync, S: Share, L: Link>(
-    lent: &Lent<'_, R, S>,
+fn play_script<F: Fetcher, S: Share, L: Link>(
+    fetcher: &F,
+    lent: &Lent<'_, S>,
     number: u32,
     key: Bytes,
     document: &Document,
@@ -66,7 +64,7 @@ fn play_script<R: Threads + Wait + Sync, S: Share, L: Link>(
         wire,
         running: &mut running,
     };
-    let ending = ended_by(script(&OverLink, &mut player, &document.script));
+    let ending = ended_by(script(fetcher, &mut player, &document.script));
     let clock = running.now();
     Transcript {
         document: number,
@@ -78,8 +76,8 @@ fn play_script<R: Threads + Wait + Sync, S: Share, L: Link>(
 }
 
 // A document's run, to its ending, where memory was not refused before it began.
-fn run_document<R: Threads + Wait + Sync, S: Share, L: Link>(
-    rt: &R,
+fn run_document<F: Fetcher, S: Share, L: Link>(
+    fetcher: &F,
     alloc: Global,
     scenario: &Scenario,
     number: u32,
@@ -107,27 +105,25 @@ fn run_document<R: Threads + Wait + Sync, S: Share, L: Link>(
     let key = client.key.copy(alloc)?;
     let mut wire = Wire::new(alloc, link)?;
     let lent = Lent {
-        rt,
         alloc: &alloc,
         share,
         client: &client,
         policies: &policies,
         cookies: &scenario.cookies,
         limit: scenario.body_limit,
-        documents: scenario.documents.len(),
     };
-    Ok(play_script(&lent, number, key, document, base, &mut wire, pass, link))
+    Ok(play_script(fetcher, &lent, number, key, document, base, &mut wire, pass, link))
 }
 
-/// Plays a document's script over a link and a share of the book, from a time in seconds on, which is at most 2^40. The
-/// document is that of the scenario with this number. It makes 129,024 calls of the book at most, which the pass has
+/// Plays a document's script with what plays its fetches, over a link and a share of the book, from a time in seconds on,
+/// which is at most 2^40. The document is that of the scenario with this number. It makes 129,024 calls of the book at most, which the pass has
 /// left.
 ///
 /// What the transcript shows is the document's run over a tape of what the world answers, as with `drive_fetch`. At
 /// another ending than `Memory` nothing is to come over the link, where it tells it. At `Memory` what was shown begins
 /// such a run, the calls made are those on the way, an answer may be read in part, and key and clock may be any.
-pub fn drive<R: Threads + Wait + Sync, S: Share, L: Link>(
-    rt: &R,
+pub fn drive<F: Fetcher, S: Share, L: Link>(
+    fetcher: &F,
     alloc: Global,
     scenario: &Scenario,
     document: u32,
@@ -150,7 +146,7 @@ pub fn drive<R: Threads + Wait + Sync, S: Share, L: Link>(
     ensures pass { KeepsPass S.account (S.belongs share.now) most_calls pass.old pass.new }
 {
     let one = scenario.documents.at(document as usize);
-    match run_document(rt, alloc, scenario, document, one, base, share, pass, link) {
+    match run_document(fetcher, alloc, scenario, document, one, base, share, pass, link) {
         Ok(transcript) => transcript,
         Err(OutOfMemory) => Transcript {
             document,

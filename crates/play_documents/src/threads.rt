@@ -9,7 +9,7 @@ use crate::document::drive;
 use crate::seating::Row;
 use book_calls::Share;
 use link_traits::Link;
-use play_definitions::Seating;
+use play_definitions::{Fetcher, Seating};
 use script_events::{Ending, Transcript, Transcripts};
 use script_scenarios::{Scenario, law_scenario_is_shared};
 use std::alloc::Global;
@@ -19,8 +19,8 @@ use std::{mem, thread};
 use value_text::{Bytes, Items, OutOfMemory};
 
 // A document, in its row.
-fn play_row<R: Threads + Wait + Sync, S: Share, L: Link>(
-    rt: &R,
+fn play_row<F: Fetcher, S: Share, L: Link>(
+    fetcher: &F,
     alloc: Global,
     scenario: &Scenario,
     number: u32,
@@ -36,7 +36,7 @@ fn play_row<R: Threads + Wait + Sync, S: Share, L: Link>(
 {
     let seat = &mut row.seating;
     row.transcript = drive(
-        rt,
+        fetcher,
         alloc,
         scenario,
         number,
@@ -48,8 +48,9 @@ fn play_row<R: Threads + Wait + Sync, S: Share, L: Link>(
 }
 
 // The documents in their rows, on at most so many threads, of which there is one at least.
-fn play_rows<R: Threads + Wait + Sync, S: Share + Sync, L: Link + Send>(
+fn play_rows<R: Threads + Wait + Sync, F: Fetcher + Sync, S: Share + Sync, L: Link + Send>(
     rt: &R,
+    fetcher: &F,
     alloc: Global,
     scenario: &Scenario,
     base: u64,
@@ -77,7 +78,7 @@ where
                 (seat_of S.account L.told) scenario.now number row.now }
             ensures { RowCameTo (S.belongs share.entry.now) (seat_of S.account L.told) (over_link L.serves)
                 scenario.entry.now base number row.entry.now row.exit.now }
-        { play_row(rt, alloc, scenario, number as u32, base, share, row) },
+        { play_row(fetcher, alloc, scenario, number as u32, base, share, row) },
     );
 }
 
@@ -136,7 +137,8 @@ fn listed(alloc: Global, transcripts: Vec<Transcript>) -> Result<Transcripts, Ou
     Ok(list)
 }
 
-/// Plays the documents of a scenario, each on its own seat, from a time in seconds on, which is at most 2^40. There is
+/// Plays the documents of a scenario, with what plays their fetches, each on its own seat, from a time in seconds on,
+/// which is at most 2^40. There is
 /// one seat for each document, in their order, whose pass is for the document of that number with 129,024 calls left.
 /// At most so many threads play them, where these can be made: each plays some documents, one after the other.
 ///
@@ -144,8 +146,14 @@ fn listed(alloc: Global, transcripts: Vec<Transcript>) -> Result<Transcripts, Ou
 /// that of a run as `drive` makes one, but that bytes may be left over its link. `OutOfMemory` where memory was refused
 /// outside of the documents' runs: then none was played and the seats tell what they told, or all were played, and the
 /// calls that they made stay made.
-pub fn play_all<R: Threads + Wait + Sync, S: Share + Sync, L: Link + Send + Drop>(
+pub fn play_all<
+    R: Threads + Wait + Sync,
+    F: Fetcher + Sync,
+    S: Share + Sync,
+    L: Link + Send + Drop,
+>(
     rt: &R,
+    fetcher: &F,
     alloc: Global,
     scenario: &Scenario,
     base: u64,
@@ -172,6 +180,7 @@ where
     let mut rows = to_rows(alloc, seats)?;
     play_rows(
         rt,
+        fetcher,
         alloc,
         scenario,
         base,

@@ -5,11 +5,11 @@ use Rattle.std.proofs.lemmas.Grind.{common_steps}
 use Rattle.std.specs.Option.{option_or}
 use Rattle.std.specs.Prelude.{IfSome, ◌==◌, ◌||◌}
 use Rattle.url.specs.Parts.{Parts}
-use Rattle.value_headers.specs.declared.extract.Extracted.{Extracted}
-use Rattle.value_headers.specs.declared.extract.Extracted.TheVariants.{Absent, Failure as Broken, Items}
-use Rattle.value_headers.specs.declared.extract.Rule.TheVariants.{Digits, Single, Tokens}
+use Rattle.value_lists.specs.declared.extract.Extracted.{Extracted}
+use Rattle.value_lists.specs.declared.extract.Extracted.TheVariants.{Absent, Failure as Broken, Items}
+use Rattle.value_lists.specs.declared.extract.Rule.TheVariants.{Digits, Single, Tokens}
 use Rattle.value_headers.specs.declared.headers.Header.{Header}
-use Rattle.value_headers.specs.Extract.{extracted}
+use Rattle.value_lists.specs.Extract.{extracted}
 use Rattle.value_requests.specs.declared.client.Client.{Client}
 use Rattle.value_requests.specs.declared.error.NetError.{NetError}
 use Rattle.value_requests.specs.declared.error.NetError.TheVariants as error

@@ -9,14 +9,12 @@ use book_calls::{Op, Share};
 use fetch_acts::{Act, Input};
 use link_traits::Link;
 use play_definitions::{Lent, Player};
-use std::sync::Wait;
-use std::thread::Threads;
 use value_places::Shared;
 use value_text::OutOfMemory;
 
 // Makes one call of the book, and answers its reply.
-fn ask<R: Threads + Wait + Sync, S: Share>(
-    lent: &Lent<'_, R, S>,
+fn ask<S: Share>(
+    lent: &Lent<'_, S>,
     pass: &mut S::Pass,
     op: &Shared<Op>,
 ) -> Result<Input, OutOfMemory>
@@ -31,13 +29,13 @@ fn ask<R: Threads + Wait + Sync, S: Share>(
     ensures kept { KeepsPass S.account (S.belongs lent.now.share.now) 1 pass.old pass.new }
 {
     let op = op.share()?;
-    let reply = lent.share.call(lent.rt, *lent.alloc, pass, op)?;
+    let reply = lent.share.call(*lent.alloc, pass, op)?;
     Ok(Input::Replied(reply))
 }
 
 // Does an act: a call of the book, what the link does for a request, or a word to the document.
-pub(crate) fn answer<R: Threads + Wait + Sync, S: Share, L: Link>(
-    player: &mut Player<'_, '_, '_, '_, '_, R, S, L>,
+pub(crate) fn answer<S: Share, L: Link>(
+    player: &mut Player<'_, '_, '_, '_, '_, S, L>,
     act: &Act,
 ) -> Result<Input, OutOfMemory>
     requires ready { IsReady S.belongs player.old }

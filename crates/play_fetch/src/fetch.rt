@@ -19,16 +19,14 @@ use play_definitions::{FetchRun, Fetcher, Lent, Player};
 use policy_csp::Compiled;
 use script_runs::Running;
 use std::alloc::Global;
-use std::sync::Wait;
-use std::thread::Threads;
 use value_places::Boxed;
 use value_requests::{Client, Cookies, Outcome, Request};
 use value_text::OutOfMemory;
 
 // Shows what came of an act, and takes the fetch on from its input.
 #[inline(always)]
-fn take_on<R: Threads + Wait + Sync, S: Share>(
-    lent: &Lent<'_, R, S>,
+fn take_on<S: Share>(
+    lent: &Lent<'_, S>,
     running: &mut Running,
     fetching: Fetching,
     act: Act,
@@ -47,8 +45,8 @@ fn take_on<R: Threads + Wait + Sync, S: Share>(
 }
 
 // Does the act that a fetch waits for, shows it, and takes the fetch to its next step.
-fn go_on<R: Threads + Wait + Sync, S: Share, L: Link>(
-    player: &mut Player<'_, '_, '_, '_, '_, R, S, L>,
+fn go_on<S: Share, L: Link>(
+    player: &mut Player<'_, '_, '_, '_, '_, S, L>,
     fetching: Fetching,
     act: Act,
 ) -> Result<Step, OutOfMemory>
@@ -72,8 +70,8 @@ fn go_on<R: Threads + Wait + Sync, S: Share, L: Link>(
 
 // Plays one fetch of a request, to its outcome, at a time in seconds (Fetch, section 4.1), over the wire as it is,
 // which the caller hangs up. It makes 126 calls of the book at most.
-fn play_fetch<R: Threads + Wait + Sync, S: Share, L: Link>(
-    player: &mut Player<'_, '_, '_, '_, '_, R, S, L>,
+fn play_fetch<S: Share, L: Link>(
+    player: &mut Player<'_, '_, '_, '_, '_, S, L>,
     request: Request,
     now: u64,
 ) -> Result<Boxed<Outcome>, OutOfMemory>
@@ -115,9 +113,9 @@ fn play_fetch<R: Threads + Wait + Sync, S: Share, L: Link>(
 pub struct OverLink;
 
 impl Fetcher for OverLink {
-    fn fetch<R: Threads + Wait + Sync, S: Share, L: Link>(
+    fn fetch<S: Share, L: Link>(
         &self,
-        player: &mut Player<'_, '_, '_, '_, '_, R, S, L>,
+        player: &mut Player<'_, '_, '_, '_, '_, S, L>,
         request: Request,
         now: u64,
     ) -> Result<Boxed<Outcome>, OutOfMemory> {
@@ -134,8 +132,7 @@ impl Fetcher for OverLink {
 /// where it tells its state, and its count of faults rises by one with each fault of the tape. At an outcome nothing is
 /// to come over the link, where it tells that. Where memory was refused the calls that were made by then stay made, and
 /// an answer may be read in part.
-pub fn drive_fetch<R: Threads + Wait + Sync, S: Share, L: Link>(
-    rt: &R,
+pub fn drive_fetch<S: Share, L: Link>(
     alloc: Global,
     request: Request,
     client: &Client,
@@ -158,7 +155,6 @@ pub fn drive_fetch<R: Threads + Wait + Sync, S: Share, L: Link>(
     let mut wire = Wire::new(alloc, link)?;
     let mut running = Running::new(alloc, 0);
     let lent = Lent {
-        rt,
         alloc: &alloc,
         share,
         client,
@@ -166,7 +162,6 @@ pub fn drive_fetch<R: Threads + Wait + Sync, S: Share, L: Link>(
         cookies,
         limit: body_limit,
         // a fetch by itself shares the room for filled texts with none
-        documents: 1,
     };
     let mut player = Player {
         lent: &lent,

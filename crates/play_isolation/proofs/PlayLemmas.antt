@@ -18,11 +18,11 @@ use Rattle.fetch_views.specs.Apart.{Made, views_on}
 use Rattle.script_runs.specs.Play.{Play, PlayRun, events_of, run_play}
 use Rattle.script_runs.specs.Runs.{document_client, document_run}
 use Rattle.script_runs.specs.Traces.{PlayTrace, shown, stepped, stop}
-use Rattle.script_runs.proofs.DocumentLemmas.{each-so}
+use Rattle.script_runs.specs.Documents.{EachDocument}
 use Rattle.fetch_wire.specs.Exchanges.{Answering}
 use Rattle.play_definitions.specs.Worlds.{Outside, Settles, World, WorldAnswers}
 use Rattle.play_isolation.specs.Calls.{call_of, calls_in, calls_of}
-use Rattle.play_isolation.specs.Isolated.{IsAlone, alone_in, run_in, run_of}
+use Rattle.play_isolation.specs.Isolated.{AllAreAlone, alone_in, run_in, run_of}
 use Rattle.play_isolation.specs.Laws.{IsIn, PlaysAlone, WorldsAlike}
 use Rattle.play_isolation.specs.Alone.{alone, pasts}
 use Rattle.play_isolation.specs.Apart.{plan_of}
@@ -109,18 +109,21 @@ module _ {State : Type 0} (by : Answering State) (scenario : Scenario) (base : �
       ∙ runs-alone law scenario.cookies base document (opening_book scenario) history number tape
       (transcript-in legal)
 
-  pub is-alone : PastsAnswer → Legal (opening_book scenario) history
-      → IsAlone by scenario base history number document old new transcript
-  is-alone law legal = record { is = is; alone_is = transcript-alone law legal }
-
 -- ---- all of them
 
+module _ {State : Type 0} (by : Answering State) (scenario : Scenario) (base : ℕ) (history : List Entry)
+    (law : PastsAnswer) (legal : Legal (opening_book scenario) history) where
+  all-alone : {number : ℕ} {documents : List Document} {olds news : List (Way State)} {transcripts : List Transcript}
+      (runs : EachDocument (IsTranscript by scenario base history) number documents olds news transcripts)
+      → AllAreAlone runs
+  all-alone EachDocument.none = tt
+  all-alone (EachDocument.one_more {number = number} {document = document} {old = old} {new = new}
+      {transcript = transcript} is more) =
+      (transcript-alone by scenario base history number document old new transcript is law legal, all-alone more)
+
 pub plays-alone : PastsAnswer → (State : Type 0) → PlaysAlone State
-plays-alone law State by scenario base olds news transcripts history play = record {
-  play = play;
-  alone = each-so (λ number document old new transcript is.
-      is-alone by scenario base history number document old new transcript is law play.legal) play.runs;
-}
+plays-alone law State by scenario base olds news transcripts history play =
+    all-alone by scenario base history law play.legal play.runs
 
 -- ---- two plays
 

@@ -24,17 +24,24 @@ alone_in scenario base history number document learnt =
     alone (opening_book scenario) (run_in scenario base document)
     (pasts number (document_client document).key history) learnt
 
--- The transcript is that of the document's run, over what its link answers and over its entries of the history, and it
--- is what the document would do alone over the views of these answers.
-pub record IsAlone {State : Type 0} (by : Answering State) (scenario : Scenario) (base : ℕ) (history : List Entry)
-    (number : ℕ) (document : Document) (old new : Way State) (transcript : Transcript) : Type 0 where
-  pub is : IsTranscript by scenario base history number document old new transcript
-  pub alone_is : run_of transcript
-      ≡ alone_in scenario base history number document
-      (views_on (plan_of (run_in scenario base document)) is.run_is.ran.tape)
+-- the run that the transcript tells is what the document would do alone over the views of the answers of this tape
+abbrev pub IsAlone : Scenario → ℕ → List Entry → ℕ → Document → List Input → Transcript → Type 0
+IsAlone scenario base history number document tape transcript =
+    run_of transcript
+    ≡ alone_in scenario base history number document (views_on (plan_of (run_in scenario base document)) tape)
 
--- A play in which what each document sends and sees is what it would alone.
+module _ {State : Type 0} {by : Answering State} {scenario : Scenario} {base : ℕ} {history : List Entry} where
+  -- so it is of each document of a play, over the tape of its run there
+  abbrev pub AllAreAlone : {number : ℕ} {documents : List Document} {olds news : List (Way State)}
+      {transcripts : List Transcript}
+      → EachDocument (IsTranscript by scenario base history) number documents olds news transcripts → Type 0
+  AllAreAlone EachDocument.none = Unit {0}
+  AllAreAlone (EachDocument.one_more {number = number} {document = document} {transcript = transcript} is more) =
+      IsAlone scenario base history number document is.run_is.ran.tape transcript × AllAreAlone more
+
+-- A play in which what each document sends and sees is what it would alone, over what it may learn of the answers of
+-- this play.
 pub record IsIsolated {State : Type 0} (by : Answering State) (scenario : Scenario) (base : ℕ)
     (olds news : List (Way State)) (transcripts : List Transcript) (history : List Entry) : Type 0 where
   pub play : IsPlayOver by scenario base olds news transcripts history
-  pub alone : EachDocument (IsAlone by scenario base history) 0 scenario.documents olds news transcripts
+  pub alone : AllAreAlone play.runs

@@ -9,7 +9,7 @@ use Rattle.play_isolation.specs.Words.{replies_on, run_play, views_on}
 use Rattle.play_isolation.specs.Alone.{alone, pasts}
 use Rattle.play_isolation.specs.Apart.{apart, plan_of}
 use Rattle.play_isolation.specs.Calls.{PartAtReply, calls_in, document_calls}
-use Rattle.play_isolation.specs.Isolated.{IsIsolated, run_in, run_of}
+use Rattle.play_isolation.specs.Isolated.{AllAreAlone, run_in, run_of}
 
 -- ---- runs over tapes
 
@@ -102,8 +102,7 @@ abbrev pub PlaysAlone : Type 0 → Type 0
 PlaysAlone State =
     (by : Answering State) (scenario : Scenario) (base : ℕ) (olds news : List (Way State))
     (transcripts : List Transcript) (history : List Entry)
-    → IsPlayOver by scenario base olds news transcripts history
-    → IsIsolated by scenario base olds news transcripts history
+    → (play : IsPlayOver by scenario base olds news transcripts history) → AllAreAlone play.runs
 
 -- Two scenarios have the same known hosts and cookies.
 pub record AreAlike (scenario other : Scenario) : Type 0 where

@@ -20,7 +20,7 @@ pub use Rattle.script_commands.specs.Depth.{step_size, steps_size}
 pub use Rattle.script_commands.specs.Scripts.{Steps}
 pub use Rattle.script_events.specs.declared.events.Ending.{Ending}
 pub use Rattle.script_events.specs.declared.events.Event.{Event}
-pub use Rattle.script_filling.specs.Filled.{filled_init}
+pub use Rattle.script_filling.specs.Filled.{filled_init, filled_load}
 pub use Rattle.script_filling.specs.Results.{holds, lent_result}
 pub use Rattle.script_runs.proofs.PlayLemmas.{play-append}
 pub use Rattle.script_runs.specs.Play.{Play}

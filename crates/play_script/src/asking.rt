@@ -16,15 +16,13 @@ use play_definitions::{Fetcher, Lent, Player};
 use script_events::{Ending, Event};
 use script_filling::{filled_init, filled_load, is_plain, is_plain_load};
 use script_runs::{fault_event, outcome_event};
-use std::sync::Wait;
-use std::thread::Threads;
 use value_requests::{Destination, Init, LoadInit, Request, TypeFault};
 use value_text::OutOfMemory;
 
 // The request of what a script asks of `fetch`, with the parts of the last result in the place of its placeholders, or
 // why there is none (Fetch, sections 5.4 and 5.6).
-fn requested<R, S>(
-    lent: &Lent<'_, R, S>,
+fn requested<S>(
+    lent: &Lent<'_, S>,
     last: Option<&Event>,
     init: &Init,
 ) -> Result<Result<Request, TypeFault>, OutOfMemory>
@@ -38,13 +36,13 @@ fn requested<R, S>(
     if is_plain(init) {
         return new_request(*lent.alloc, init, lent.client);
     }
-    let filled = filled_init(*lent.alloc, lent.documents, last, init)?;
+    let filled = filled_init(*lent.alloc, last, init)?;
     new_request(*lent.alloc, &filled, lent.client)
 }
 
 // The request of what an element loads, the same in its URL (HTML, section 2.5.1).
-fn requested_load<R, S>(
-    lent: &Lent<'_, R, S>,
+fn requested_load<S>(
+    lent: &Lent<'_, S>,
     last: Option<&Event>,
     init: &LoadInit,
 ) -> Result<Result<Request, TypeFault>, OutOfMemory>
@@ -58,13 +56,13 @@ fn requested_load<R, S>(
     if is_plain_load(init) {
         return new_load(*lent.alloc, init, lent.client);
     }
-    let filled = filled_load(*lent.alloc, lent.documents, last, init)?;
+    let filled = filled_load(*lent.alloc, last, init)?;
     new_load(*lent.alloc, &filled, lent.client)
 }
 
 // Shows what a fetch or a load came to. Nothing more of its answer is wanted then.
-fn end_fetch<R: Threads + Wait + Sync, S: Share, L: Link>(
-    player: &mut Player<'_, '_, '_, '_, '_, R, S, L>,
+fn end_fetch<S: Share, L: Link>(
+    player: &mut Player<'_, '_, '_, '_, '_, S, L>,
     event: Event,
 ) -> Result<(), OutOfMemory>
     requires ready { IsReady S.belongs player.old }
@@ -80,9 +78,9 @@ fn end_fetch<R: Threads + Wait + Sync, S: Share, L: Link>(
 }
 
 // Shows the request's outcome, or that there is no request. Neither ends the run.
-fn request<F: Fetcher, R: Threads + Wait + Sync, S: Share, L: Link>(
+fn request<F: Fetcher, S: Share, L: Link>(
     fetcher: &F,
-    player: &mut Player<'_, '_, '_, '_, '_, R, S, L>,
+    player: &mut Player<'_, '_, '_, '_, '_, S, L>,
     kind: Destination,
     made: Result<Request, TypeFault>,
 ) -> Result<Option<Ending>, OutOfMemory>
@@ -111,9 +109,9 @@ fn request<F: Fetcher, R: Threads + Wait + Sync, S: Share, L: Link>(
 }
 
 // Plays a fetch, or a load of a kind: shows its number, and then what comes of its request.
-fn asked<F: Fetcher, R: Threads + Wait + Sync, S: Share, L: Link>(
+fn asked<F: Fetcher, S: Share, L: Link>(
     fetcher: &F,
-    player: &mut Player<'_, '_, '_, '_, '_, R, S, L>,
+    player: &mut Player<'_, '_, '_, '_, '_, S, L>,
     kind: Destination,
     made: Result<Request, TypeFault>,
 ) -> Result<Option<Ending>, OutOfMemory>
@@ -132,9 +130,9 @@ fn asked<F: Fetcher, R: Threads + Wait + Sync, S: Share, L: Link>(
 }
 
 // Plays a call of `fetch` (Fetch, section 5.6). The run has reached no limit before it.
-pub(crate) fn fetch_command<F: Fetcher, R: Threads + Wait + Sync, S: Share, L: Link>(
+pub(crate) fn fetch_command<F: Fetcher, S: Share, L: Link>(
     fetcher: &F,
-    player: &mut Player<'_, '_, '_, '_, '_, R, S, L>,
+    player: &mut Player<'_, '_, '_, '_, '_, S, L>,
     init: &Init,
 ) -> Result<Option<Ending>, OutOfMemory>
     requires ready { IsReady S.belongs player.old }
@@ -151,9 +149,9 @@ pub(crate) fn fetch_command<F: Fetcher, R: Threads + Wait + Sync, S: Share, L: L
 }
 
 // Plays a load by an element, the same (HTML, section 2.5.1).
-pub(crate) fn load_command<F: Fetcher, R: Threads + Wait + Sync, S: Share, L: Link>(
+pub(crate) fn load_command<F: Fetcher, S: Share, L: Link>(
     fetcher: &F,
-    player: &mut Player<'_, '_, '_, '_, '_, R, S, L>,
+    player: &mut Player<'_, '_, '_, '_, '_, S, L>,
     init: &LoadInit,
 ) -> Result<Option<Ending>, OutOfMemory>
     requires ready { IsReady S.belongs player.old }

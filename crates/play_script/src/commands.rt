@@ -12,15 +12,13 @@ use play_definitions::{Fetcher, Player};
 use script_commands::{Command, Script, Test};
 use script_events::Ending;
 use script_filling::holds;
-use std::sync::Wait;
-use std::thread::Threads;
 use value_text::OutOfMemory;
 
 // One of two scripts, by a condition on the last result.
 #[cycle(script)]
-fn choice<F: Fetcher, R: Threads + Wait + Sync, S: Share, L: Link>(
+fn choice<F: Fetcher, S: Share, L: Link>(
     fetcher: &F,
-    player: &mut Player<'_, '_, '_, '_, '_, R, S, L>,
+    player: &mut Player<'_, '_, '_, '_, '_, S, L>,
     test: &Test,
     part: &Script,
     other: &Script,
@@ -43,9 +41,9 @@ fn choice<F: Fetcher, R: Threads + Wait + Sync, S: Share, L: Link>(
 
 // A script so many times.
 #[cycle(script)]
-fn repeat<F: Fetcher, R: Threads + Wait + Sync, S: Share, L: Link>(
+fn repeat<F: Fetcher, S: Share, L: Link>(
     fetcher: &F,
-    player: &mut Player<'_, '_, '_, '_, '_, R, S, L>,
+    player: &mut Player<'_, '_, '_, '_, '_, S, L>,
     times: u32,
     part: &Script,
 ) -> Result<Option<Ending>, OutOfMemory>
@@ -68,9 +66,9 @@ fn repeat<F: Fetcher, R: Threads + Wait + Sync, S: Share, L: Link>(
 
 // One command, before which the run has reached no limit.
 #[cycle(script)]
-fn play_command<F: Fetcher, R: Threads + Wait + Sync, S: Share, L: Link>(
+fn play_command<F: Fetcher, S: Share, L: Link>(
     fetcher: &F,
-    player: &mut Player<'_, '_, '_, '_, '_, R, S, L>,
+    player: &mut Player<'_, '_, '_, '_, '_, S, L>,
     command: &Command,
 ) -> Result<Option<Ending>, OutOfMemory>
     requires ready { IsReady S.belongs player.old }
@@ -105,9 +103,9 @@ fn play_command<F: Fetcher, R: Threads + Wait + Sync, S: Share, L: Link>(
 /// the link. It gives the ending that a limit brings, or none. `OutOfMemory` where memory was refused: then the script
 /// came to some place.
 #[cycle(script)]
-pub fn script<F: Fetcher, R: Threads + Wait + Sync, S: Share, L: Link>(
+pub fn script<F: Fetcher, S: Share, L: Link>(
     fetcher: &F,
-    player: &mut Player<'_, '_, '_, '_, '_, R, S, L>,
+    player: &mut Player<'_, '_, '_, '_, '_, S, L>,
     script: &Script,
 ) -> Result<Option<Ending>, OutOfMemory>
     requires ready { IsReady S.belongs player.old }

@@ -13,7 +13,7 @@ use lib.ListN.{get_elem?}
 use mathlib.Core.Option.{some}
 use Rattle.book_calls.specs.declared.book.Book.{Book}
 use Rattle.book_calls.specs.declared.entry.Entry.{Entry}
-use Rattle.book_calls.specs.Entries.{Legal, book_after, entries_of}
+use Rattle.book_calls.specs.Entries.{HasTurnsFrom, Legal, book_after, entries_of}
 use Rattle.script_events.specs.declared.events.Ending.{Ending}
 use Rattle.script_events.specs.declared.events.Ending.TheVariants as ending
 use Rattle.script_events.specs.declared.events.Event.{Event}
@@ -31,7 +31,7 @@ use Rattle.book_turns.specs.Passes.{HasEveryPass, IsOneHistory, calls_of, is_of,
 use Rattle.book_turns.specs.declared.pass.TurnPass.{TurnPass}
 use Rattle.book_turns.proofs.Count.{turns-are-places}
 use Rattle.book_turns.proofs.Whole.{whole_of}
-use Rattle.play_definitions.specs.Plays.{HasTurnsFrom, Way, opening_book}
+use Rattle.play_definitions.specs.Plays.{Way, opening_book}
 use Rattle.play_seats.specs.Links.{way_of}
 use Rattle.play_seats.specs.Passes.{ArePasses, IsNew}
 use Rattle.play_seats.specs.Seated.{IsFresh, links_in, passes_in, seat_seen}

@@ -5,4 +5,5 @@ pub mod LinkLemmas
 pub mod ListLemmas
 pub mod PassLemmas
 pub mod SeatedLemmas
+pub mod ServedLemmas
 pub mod ServerLemmas

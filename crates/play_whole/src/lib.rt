@@ -3,4 +3,4 @@
 
 mod play;
 
-pub use play::{Played, SCRIPTED_THREADS, play_over, play_scripted};
+pub use play::{SCRIPTED_THREADS, play_over, play_scripted};

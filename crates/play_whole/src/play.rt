@@ -10,27 +10,20 @@ ghost use Rattle.play_whole.specs.Private.Seated.{AreUnseated};
 ghost use Rattle.play_whole.specs.Refused.{NoneOrAllPlayed};
 ghost use Rattle.play_definitions.specs.Plays.{IsPlay, IsPlayOver};
 
-use book_calls::History;
-use book_turns::{Closed, TurnBook, TurnPass};
+use book_turns::{Closed, TurnBook, TurnPass, TurnShare};
 use link_routes::Links;
-use play_definitions::Seating;
+use play_definitions::{Played, Seating};
 use play_documents::play_all;
 use play_faults::{law_faults_counted, law_faults_shown};
+use play_fetch::OverLink;
 use play_seats::{open_play, unseat};
 use play_servers::SimLinks;
-use script_events::{Transcripts, has_text};
+use script_events::has_text;
 use script_scenarios::Scenario;
 use std::alloc::Global;
 use std::sync::Wait;
 use std::thread::Threads;
 use value_text::OutOfMemory;
-
-/// What a play has come to: what each document has shown, and the one history of the book.
-#[derive(Drop)]
-pub struct Played {
-    pub transcripts: Transcripts,
-    pub history: History,
-}
 
 // Plays each document on its seat, takes the links back, in order of documents, and closes the book.
 fn play_seated<R: Threads + Wait + Sync, N: Links>(
@@ -56,7 +49,10 @@ fn play_seated<R: Threads + Wait + Sync, N: Links>(
         (NoneOrAllPlayed (over_link N.Link.serves) scenario.entry.now base)) }
     ensures has_text { IfOk result (λ played. HasText played.transcripts) }
 {
-    let played = play_all(rt, alloc, scenario, base, &book, threads, &mut seats);
+    let share = TurnShare { rt, book: &book };
+    let played = play_all(
+        rt, &OverLink, alloc, scenario, base, &share, threads, &mut seats,
+    );
     unseat(seats, links, &mut passes);
     let Closed { book: _, history } = book.close(passes);
     let transcripts = played?;

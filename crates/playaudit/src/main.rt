@@ -24,7 +24,6 @@ fn main(rt: HostRuntime) -> ExitCode {
     let mut output = StandardOutput::new(rt.stdout());
     let mut complaints = StandardError::new(rt.stderr());
     let status = playaudit(
-        &rt,
         rt.alloc(),
         words,
         &mut input,

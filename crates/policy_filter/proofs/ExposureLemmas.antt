@@ -5,11 +5,11 @@ use Rattle.std.proofs.lemmas.Bool.{cases_Bool}
 use Rattle.std.proofs.lemmas.Grind.{common_steps}
 use Rattle.std.specs.List.{list_all}
 use Rattle.std.specs.Str.{str_eq_ignore_ascii_case}
-use Rattle.value_headers.specs.declared.extract.Extracted.{Extracted}
-use Rattle.value_headers.specs.declared.extract.Extracted.TheVariants.{Absent, Failure, Items}
-use Rattle.value_headers.specs.declared.extract.Rule.TheVariants.{Tokens}
+use Rattle.value_lists.specs.declared.extract.Extracted.{Extracted}
+use Rattle.value_lists.specs.declared.extract.Extracted.TheVariants.{Absent, Failure, Items}
+use Rattle.value_lists.specs.declared.extract.Rule.TheVariants.{Tokens}
 use Rattle.value_headers.specs.declared.headers.Header.{Header}
-use Rattle.value_headers.specs.Extract.{extracted}
+use Rattle.value_lists.specs.Extract.{extracted}
 use Rattle.value_headers.specs.Headers.{is_named}
 use Rattle.value_requests.specs.declared.mode.Tainting.TheVariants as tainting
 use Rattle.value_requests.specs.declared.request.Request.{Request}

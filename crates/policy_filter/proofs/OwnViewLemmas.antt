@@ -3,11 +3,11 @@ use Rattle.std.proofs.Common.{◌≡◌, ◌&&◌, [], ℕ, Bool, true, false, n
 use Rattle.std.proofs.Common.{sym, ◌∙◌}
 use Rattle.std.proofs.Common.{inl, inr}
 use Rattle.std.proofs.lemmas.Bool.{and_parts, cases_Bool, or_left}
-use Rattle.value_headers.specs.declared.extract.Extracted.{Extracted}
-use Rattle.value_headers.specs.declared.extract.Extracted.TheVariants.{Absent, Failure, Items}
-use Rattle.value_headers.specs.declared.extract.Rule.TheVariants.{Tokens}
+use Rattle.value_lists.specs.declared.extract.Extracted.{Extracted}
+use Rattle.value_lists.specs.declared.extract.Extracted.TheVariants.{Absent, Failure, Items}
+use Rattle.value_lists.specs.declared.extract.Rule.TheVariants.{Tokens}
 use Rattle.value_headers.specs.declared.headers.Header.{Header}
-use Rattle.value_headers.specs.Extract.{extracted}
+use Rattle.value_lists.specs.Extract.{extracted}
 use Rattle.value_headers.specs.Headers.{contains, values_of}
 use Rattle.policy_checks.proofs.NameLemmas.{values-kept}
 use Rattle.value_requests.specs.declared.hop.Head.{Head}

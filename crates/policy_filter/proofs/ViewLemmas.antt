@@ -10,9 +10,9 @@ use Rattle.std.specs.Str.{str_eq_ignore_ascii_case, str_to_ascii_lowercase}
 use Rattle.value_headers.proofs.ValueLemmas.{no-values}
 use Rattle.value_headers.proofs.SpellingLemmas.{fold-sym, fold-trans}
 use Rattle.value_headers.specs.declared.headers.Header.{Header}
-use Rattle.value_headers.specs.declared.extract.Extracted.TheVariants.{Absent}
-use Rattle.value_headers.specs.declared.extract.Rule.{Rule}
-use Rattle.value_headers.specs.Extract.{extracted, extracted_of}
+use Rattle.value_lists.specs.declared.extract.Extracted.TheVariants.{Absent}
+use Rattle.value_lists.specs.declared.extract.Rule.{Rule}
+use Rattle.value_lists.specs.Extract.{extracted, extracted_of}
 use Rattle.value_headers.specs.Headers.{contains, is_named}
 use Rattle.policy_checks.proofs.NameLemmas.{among-named, values-kept}
 use Rattle.value_requests.specs.declared.mode.Tainting.{Tainting}

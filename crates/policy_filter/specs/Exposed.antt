@@ -3,11 +3,11 @@
 use Rattle.std.specs.Prelude.{Bool, not, ◌&&◌, List, [], ◌∷◌, filter, codes, if◌then◌else◌}
 use Rattle.value_text.specs.Texts.{Text}
 use Rattle.value_text.specs.Wildcards.{has_wildcard}
-use Rattle.value_headers.specs.declared.extract.Extracted.{Extracted}
-use Rattle.value_headers.specs.declared.extract.Extracted.TheVariants.{Items}
-use Rattle.value_headers.specs.declared.extract.Rule.TheVariants.{Tokens}
+use Rattle.value_lists.specs.declared.extract.Extracted.{Extracted}
+use Rattle.value_lists.specs.declared.extract.Extracted.TheVariants.{Items}
+use Rattle.value_lists.specs.declared.extract.Rule.TheVariants.{Tokens}
 use Rattle.value_headers.specs.declared.headers.Header.{Header}
-use Rattle.value_headers.specs.Extract.{extracted}
+use Rattle.value_lists.specs.Extract.{extracted}
 use Rattle.value_headers.specs.Headers.{is_named}
 
 -- the names of a header list, each once, in order

@@ -1,10 +1,11 @@
 // Filtered responses: basic, CORS, opaque and opaque-redirect ones (Fetch, section 2.2.6).
-ghost use Rattle.std.specs.Prelude.{◌≡◌, filter, IfOk, OnOk};
+ghost use Rattle.std.specs.Prelude.{◌≡◌, false, filter, IfOk, IsOk, OnOk};
 ghost use Rattle.policy_filter.specs.Filtered as spec;
 ghost use Rattle.policy_filter.specs.Names.{is_safelisted};
 ghost use Rattle.policy_filter.specs.Private.Exposing as private;
 ghost use Rattle.value_headers.specs.Spelling.{HaveOneSpelling};
 ghost use Rattle.value_requests.specs.Requests.{IsRequest};
+ghost use Rattle.value_requests.specs.declared.mode.Tainting.TheVariants.{Opaque};
 
 use crate::exposed::{Exposure, exposure_of};
 use crate::keep::Keep;
@@ -142,7 +143,7 @@ fn redirect_filtered(alloc: Global, request: &Request) -> Result<Response, OutOf
 /// tells, and else a basic, CORS or opaque one by the request's tainting. Headers are in order and as
 /// they are spelled, equal names in one spelling. Each header of a CORS response is compared with the
 /// exposed names that are listed, or looked up in a set of them where both are more than eight. The
-/// only error is want of memory.
+/// only error is want of memory, which an opaque response does not have.
 pub fn filtered(
     alloc: Global,
     request: &Request,
@@ -151,6 +152,7 @@ pub fn filtered(
 ) -> Result<Response, OutOfMemory>
     requires { IsRequest request.now }
     ensures value { IfOk result (λ response. response ≡ spec.filtered request.now head manual) }
+    ensures opaque { manual ≡ false → request.now.tainting ≡ Opaque → IsOk result }
     ensures spelled { IfOk result (λ response. HaveOneSpelling response.headers) }
 {
     if manual {

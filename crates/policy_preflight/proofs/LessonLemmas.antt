@@ -6,11 +6,11 @@ use Rattle.std.specs.Prelude.{IsTrue}
 use Rattle.std.specs.List.{flat_map, list_all}
 use Rattle.value_text.specs.Digits.{capped_digits, is_digits}
 use Rattle.value_text.specs.Tokens.{is_token}
-use Rattle.value_headers.specs.declared.extract.Extracted.{Extracted}
-use Rattle.value_headers.specs.declared.extract.Extracted.TheVariants.{Absent, Failure, Items}
-use Rattle.value_headers.specs.declared.extract.Rule.TheVariants.{Digits, Tokens}
+use Rattle.value_lists.specs.declared.extract.Extracted.{Extracted}
+use Rattle.value_lists.specs.declared.extract.Extracted.TheVariants.{Absent, Failure, Items}
+use Rattle.value_lists.specs.declared.extract.Rule.TheVariants.{Digits, Tokens}
 use Rattle.value_headers.specs.declared.headers.Header.{Header}
-use Rattle.value_headers.specs.Extract.{extracted, extracted_of, items, token_list}
+use Rattle.value_lists.specs.Extract.{extracted, extracted_of, items, token_list}
 use Rattle.value_headers.specs.Headers.{values_of}
 use Rattle.value_requests.specs.declared.hop.Head.{Head}
 use Rattle.value_requests.specs.declared.request.Request.{Request}

@@ -1,4 +1,5 @@
 pub mod Computed
 pub mod ViewLemmas
 pub mod LessonLemmas
+pub mod OriginLemmas
 pub mod RefusedLemmas

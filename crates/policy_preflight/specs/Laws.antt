@@ -2,14 +2,21 @@
 use Rattle.std.specs.Prelude.{◌≡◌, ◌≢◌, ◌≤◌, Bool, true, false, List, codes, Some}
 use Rattle.std.specs.Prelude.{IsTrue}
 use Rattle.policy_preflight.specs.Words.{Head, Header, IsRequest, Request, Text, combined, is_token, list_all}
-use Rattle.policy_preflight.specs.Words.{passes_cors_check, preflight_view}
+use Rattle.policy_preflight.specs.Words.{is_include, passes_check, passes_cors_check, preflight_view}
 use Rattle.policy_preflight.specs.declared.answer.Checked.{Checked}
 use Rattle.policy_preflight.specs.declared.answer.Checked.TheVariants.{Pass, Refused}
 use Rattle.policy_preflight.specs.Verdict.{verdict}
 
--- with credentials, an origin text other than `*` does not pass the CORS check where Access-Control-Allow-Origin is `*`
+-- with credentials no request passes the CORS check where Access-Control-Allow-Origin is `*`
 abbrev pub CredentialsNeverByWildcard : Type 0
 CredentialsNeverByWildcard =
+    (request : Request) (headers : List Header) → IsTrue (is_include request.credentials)
+    → combined (codes "Access-Control-Allow-Origin") headers ≡ Some (codes "*")
+    → passes_check request headers ≡ false
+
+-- and no text does but `*`, which is the text of no origin
+abbrev pub StarPassesNoOther : Type 0
+StarPassesNoOther =
     (origin : Text) (headers : List Header) → origin ≢ codes "*"
     → combined (codes "Access-Control-Allow-Origin") headers ≡ Some (codes "*")
     → passes_cors_check origin true headers ≡ false

@@ -1,16 +1,16 @@
 -- The words of other crates of which these definitions speak, each brought in once.
 pub use Rattle.std.specs.List.{find, join_with_byte, list_all, list_any}
 pub use Rattle.std.specs.Str.{str_eq_ignore_ascii_case}
-pub use Rattle.policy_checks.specs.CorsCheck.{passes_cors_check}
+pub use Rattle.policy_checks.specs.CorsCheck.{passes_check, passes_cors_check}
 pub use Rattle.policy_checks.specs.OriginHeader.{referrer_value}
 pub use Rattle.policy_checks.specs.PermittedNames.{preflight_view}
 pub use Rattle.policy_checks.specs.RequestOrigins.{serialized_request_origin}
 pub use Rattle.url.specs.Parts.{Parts}
-pub use Rattle.value_headers.specs.Extract.{extracted}
+pub use Rattle.value_lists.specs.Extract.{extracted}
 pub use Rattle.value_headers.specs.Headers.{combined, contains}
-pub use Rattle.value_headers.specs.declared.extract.Extracted.{Extracted}
-pub use Rattle.value_headers.specs.declared.extract.Extracted.TheVariants.{Absent, Failure, Items}
-pub use Rattle.value_headers.specs.declared.extract.Rule.TheVariants.{Digits, Tokens}
+pub use Rattle.value_lists.specs.declared.extract.Extracted.{Extracted}
+pub use Rattle.value_lists.specs.declared.extract.Extracted.TheVariants.{Absent, Failure, Items}
+pub use Rattle.value_lists.specs.declared.extract.Rule.TheVariants.{Digits, Tokens}
 pub use Rattle.value_headers.specs.declared.headers.Header.{Header}
 pub use Rattle.value_origins.specs.Origins.{origin_of}
 pub use Rattle.value_requests.specs.Lines.{Line, accept_encoding, all_appended_where, connection, line, line_where}

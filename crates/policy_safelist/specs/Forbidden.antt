@@ -4,7 +4,7 @@ use Rattle.std.specs.Prelude.{Bool, ◌||◌, ◌&&◌, List, [], ◌∷◌, len
 use Rattle.std.specs.List.{list_any}
 use Rattle.std.specs.Str.{str_eq_ignore_ascii_case}
 use Rattle.value_text.specs.Texts.{Text}
-use Rattle.value_headers.specs.Split.{split}
+use Rattle.value_lists.specs.Split.{split}
 use Rattle.policy_safelist.specs.Names.{is_among}
 
 -- the forbidden methods

@@ -4,7 +4,7 @@ ghost use Rattle.std.specs.List.{list_any};
 ghost use Rattle.policy_safelist.specs.Forbidden as spec;
 
 use std::alloc::Global;
-use value_headers::split_value;
+use value_lists::split_value;
 use value_text::{BytesList, OutOfMemory, eq_fold, is_among_fold};
 
 // The forbidden methods.
@@ -79,9 +79,8 @@ fn has_forbidden_method(methods: &BytesList) -> bool
     false
 }
 
-// Whether a name and a value are a forbidden request-header (Fetch, section 2.2.2, "forbidden
-// request-header").
-pub(crate) fn is_forbidden_header(
+/// Whether a name and a value are a forbidden request-header (Fetch, section 2.2.2, "forbidden request-header").
+pub fn is_forbidden_header(
     alloc: Global,
     name: &[u8],
     value: &[u8],

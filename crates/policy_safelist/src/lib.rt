@@ -9,7 +9,7 @@ mod safelisted;
 mod sets;
 mod unsafe_headers;
 
-pub use forbidden::is_forbidden_method;
+pub use forbidden::{is_forbidden_header, is_forbidden_method};
 pub use guard::{Appended, Guard, guarded_append};
 pub use safelisted::is_safelisted;
 pub use unsafe_headers::unsafe_names;

@@ -1,13 +1,13 @@
 -- What the program answers to its words: its verdict by the words and the bytes of the input, what it has written
 -- then, and what it tells the complaints. What a play is, and that in it each document sends and sees what it would
 -- alone, play_isolation's definitions say; why a program comes to a verdict on an input, program_shell's.
-use Rattle.std.specs.Prelude.{◌≡◌, ◌≢◌, ℕ, ◌≤◌, ◌⊎◌, min, List, map, Option, Some, None}
+use Rattle.std.specs.Prelude.{◌≡◌, ◌≢◌, ℕ, ◌≤◌, ◌⊎◌, min, List, Option, Some, None}
 use Rattle.program_shell.specs.declared.status.Status.TheVariants as status
-use Rattle.program_fetchplay.specs.Terms.{Answering, AnswersInput, AnswersText, EachDocument, Entry, Failed}
-use Rattle.program_fetchplay.specs.Terms.{HasComplained, HasTakenBack, IsAlone, IsAnswer, IsDone, IsExcused, IsIsolated}
+use Rattle.program_fetchplay.specs.Terms.{AllAreAlone, Answering, AnswersInput, AnswersText, Entry, Failed}
+use Rattle.program_fetchplay.specs.Terms.{HasComplained, HasTakenBack, IsAnswer, IsDone, IsExcused, IsIsolated}
 use Rattle.program_fetchplay.specs.Terms.{IsPlay, IsPlayOverLinks, IsPlayed, IsWritten, LinkTold, Place, Reads, Refuses}
 use Rattle.program_fetchplay.specs.Terms.{Scenario, SinkTold, SourceTold, Status, Text, Transcript, WasRefused}
-use Rattle.program_fetchplay.specs.Terms.{by_rules, generated, play_text, scenario_of, summary_text, way_of}
+use Rattle.program_fetchplay.specs.Terms.{by_rules, generated, play_text, scenario_of, summary_text}
 use Rattle.program_fetchplay.specs.Terms.{ways_to_servers}
 use Rattle.program_fetchplay.specs.Statuses.{complaint}
 use Rattle.program_fetchplay.specs.Streams.{Net}
@@ -55,8 +55,7 @@ module _ {L State : Type 0} (by : Answering State) (told : L → LinkTold State)
     pub base : ℕ
     pub base_is : IsBase old.time base
     pub over : IsPlayOverLinks by told old.links new.links scenario base transcripts history
-    pub alone : EachDocument (IsAlone by scenario base history) 0 scenario.documents
-        (map (way_of told) over.made) (map (way_of told) over.back) transcripts
+    pub alone : AllAreAlone over.play.runs
 
   -- A play of the scenario was refused for want of memory, and nothing was written.
   pub record HasRefused (scenario : Scenario) (output output' : SinkTold) (verdict : Status Place) : Type 0 where

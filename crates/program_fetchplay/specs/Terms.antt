@@ -5,7 +5,7 @@ pub use Rattle.link_traits.specs.Links.{LinkTold}
 pub use Rattle.link_traits.specs.Sinks.{SinkTold}
 pub use Rattle.link_traits.specs.Sources.{SourceTold}
 pub use Rattle.play_definitions.specs.Plays.{IsPlay, by_rules, ways_to_servers}
-pub use Rattle.play_isolation.specs.Isolated.{IsAlone, IsIsolated}
+pub use Rattle.play_isolation.specs.Isolated.{AllAreAlone, IsIsolated}
 pub use Rattle.play_seats.specs.Links.{way_of}
 pub use Rattle.play_seats.specs.Makers.{HasTakenBack}
 pub use Rattle.play_text.specs.Summary.{summary_text}

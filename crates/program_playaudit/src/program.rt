@@ -11,8 +11,6 @@ use audit_verdict::{Verdict, audit};
 use link_traits::{Sink, Source};
 use program_shell::{Status, read_input, write_text};
 use std::alloc::Global;
-use std::sync::Wait;
-use std::thread::Threads;
 use value_text::OutOfMemory;
 
 /// The longest input that is read, in bytes.
@@ -32,8 +30,7 @@ pub type AuditStatus = Status<Verdict>;
 /// `Play`, `Refused` where it is another one. `ReadFault` only where the input failed, `WriteFault` only where the
 /// output or the complaints failed or took nothing. `InputTooLong` exactly where byte 67,108,865 was read, and
 /// `OwnFault` exactly where the whole input is not framed so. `OutOfMemory` where memory was refused.
-pub fn playaudit<R: Threads + Wait + Sync, S: Source, K: Sink, E: Sink>(
-    rt: &R,
+pub fn playaudit<S: Source, K: Sink, E: Sink>(
     alloc: Global,
     words: &[String],
     input: &mut S,
@@ -45,13 +42,12 @@ pub fn playaudit<R: Threads + Wait + Sync, S: Source, K: Sink, E: Sink>(
         (K.takes output.old) (K.takes output.new)
         (E.takes complaints.old) (E.takes complaints.new) result }
 {
-    let status = status(rt, alloc, words, input, output);
+    let status = status(alloc, words, input, output);
     tell(status, complaints)
 }
 
 // The status by the words, the input and the output.
-fn status<R: Threads + Wait + Sync, S: Source, K: Sink>(
-    rt: &R,
+fn status<S: Source, K: Sink>(
     alloc: Global,
     words: &[String],
     input: &mut S,
@@ -62,14 +58,13 @@ fn status<R: Threads + Wait + Sync, S: Source, K: Sink>(
         (K.takes output.old) (K.takes output.new) result }
 {
     match words {
-        [] => audit_input(rt, alloc, input, output),
+        [] => audit_input(alloc, input, output),
         [_, ..] => Status::Usage,
     }
 }
 
 // The status by the input and the output.
-fn audit_input<R: Threads + Wait + Sync, S: Source, K: Sink>(
-    rt: &R,
+fn audit_input<S: Source, K: Sink>(
     alloc: Global,
     input: &mut S,
     output: &mut K,
@@ -84,7 +79,7 @@ fn audit_input<R: Threads + Wait + Sync, S: Source, K: Sink>(
     let Some((scenario, play)) = framed(text.as_slice()) else {
         return Status::OwnFault;
     };
-    match audit(rt, alloc, scenario, play) {
+    match audit(alloc, scenario, play) {
         Err(OutOfMemory) => Status::OutOfMemory,
         Ok(verdict) => write_verdict(alloc, verdict, output),
     }

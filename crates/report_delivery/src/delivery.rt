@@ -25,8 +25,6 @@ use script_runs::Shown;
 use script_scenarios::{Document, Scenario};
 use std::alloc::Global;
 use std::marker::Model;
-use std::sync::Wait;
-use std::thread::Threads;
 use value_requests::Client;
 use value_text::OutOfMemory;
 
@@ -134,8 +132,7 @@ impl Log {
 }
 
 // Plays the reports of a document, in order, up to a limit.
-fn deliver_reports<R: Threads + Wait + Sync, S: Share, L: Link>(
-    rt: &R,
+fn deliver_reports<S: Share, L: Link>(
     alloc: Global,
     scenario: &Scenario,
     document: &Document,
@@ -171,7 +168,6 @@ fn deliver_reports<R: Threads + Wait + Sync, S: Share, L: Link>(
             });
         }
         let run = drive_fetch(
-            rt,
             alloc,
             report,
             client,
@@ -210,8 +206,7 @@ fn client_of(alloc: Global, document: &Document) -> Result<Client, OutOfMemory>
 ///
 /// What the reports show is their run over a tape of what the world answers, as `drive` says of a document's script.
 /// Where memory was refused some events begin such a run, and the calls that were made are those on the way.
-pub fn deliver<R: Threads + Wait + Sync, S: Share, L: Link>(
-    rt: &R,
+pub fn deliver<S: Share, L: Link>(
     alloc: Global,
     scenario: &Scenario,
     transcript: &Transcript,
@@ -237,6 +232,6 @@ pub fn deliver<R: Threads + Wait + Sync, S: Share, L: Link>(
     let client = client_of(alloc, document)?;
     let policies = Compiled::of(alloc, &Policies::new(alloc))?;
     deliver_reports(
-        rt, alloc, scenario, document, transcript, &client, &policies, share, pass, link,
+        alloc, scenario, document, transcript, &client, &policies, share, pass, link,
     )
 }

@@ -1,5 +1,5 @@
 -- Reports that are delivered, one document after another.
-use Rattle.std.proofs.Common.{◌≡◌, ℕ, zero, suc, ◌+◌, List, [], ◌∷◌, ◌++◌, length, take, Option, Some, ap, sym, subst}
+use Rattle.std.proofs.Common.{◌≡◌, ℕ, zero, suc, ◌+◌, ◌-◌, List, [], ◌∷◌, ◌++◌, length, take, Option, Some, ap, sym, subst}
 use Rattle.std.proofs.Common.{◌∙◌, arith, take_all}
 use Rattle.std.specs.Prelude.{slice_get, unwrap_or}
 use Rattle.std.specs.List.{All}
@@ -7,25 +7,24 @@ use Rattle.std.proofs.lemmas.List.{append-nil}
 use Rattle.std.proofs.lemmas.Option.{slice_get_within, unwrap_or-slice_get}
 use Rattle.book_calls.specs.declared.book.Book.{Book}
 use Rattle.book_calls.specs.declared.entry.Entry.{Entry}
-use Rattle.book_calls.specs.Entries.{book_after}
+use Rattle.book_calls.specs.Solo.{Solo}
 use Rattle.play_definitions.specs.Plays.{RunsOver, Way, outside_on}
 use Rattle.fetch_wire.specs.Exchanges.{Answering}
 use Rattle.play_definitions.specs.Playing.{RunPlayed}
 use Rattle.report_delivery.specs.declared.delivery.Delivered.{Delivered}
-use Rattle.report_play.specs.Private.Delivered.{EachDelivered, numbered}
+use Rattle.report_play.specs.Private.Delivered.{EachDelivered}
 use Rattle.script_events.specs.declared.events.Ending.{Ending}
 use Rattle.script_events.specs.declared.events.Event.{Event}
 use Rattle.script_events.specs.declared.events.Transcript.{Transcript}
 use Rattle.script_runs.specs.Play.{Play}
 
-module _ {L : Type 0} {Is : Transcript → Book → L → Delivered → List Entry → Type 0} where
-  each-push : {book last : Book} {history whole : List Entry} {transcripts : List Transcript} {links : List L}
-      {delivereds : List Delivered} {transcript : Transcript} {link : L} {delivered : Delivered} {entries : List Entry}
+module _ {L : Type 0} {Is : Transcript → Book → List Entry → L → Delivered → Book → List Entry → Type 0} where
+  each-push : {book last after : Book} {history whole longer : List Entry} {transcripts : List Transcript}
+      {links : List L} {delivereds : List Delivered} {transcript : Transcript} {link : L} {delivered : Delivered}
       → EachDelivered Is book history transcripts links delivereds last whole
-      → Is transcript last link delivered entries
+      → Is transcript last whole link delivered after longer
       → EachDelivered Is book history (transcripts ++ transcript ∷ []) (links ++ link ∷ [])
-      (delivereds ++ delivered ∷ []) (book_after last entries)
-      (whole ++ numbered transcript.document (length whole) entries)
+      (delivereds ++ delivered ∷ []) after longer
   each-push EachDelivered.none is = EachDelivered.one_more is EachDelivered.none
   each-push (EachDelivered.one_more one more) is = EachDelivered.one_more one (each-push more is)
 
@@ -37,15 +36,14 @@ module _ {L : Type 0} {Is : Transcript → Book → L → Delivered → List Ent
   -- the reports of one document more
   pub delivered-more : (book last after : Book) (history whole longer : List Entry) (transcripts : List Transcript)
       (number : ℕ) (links : List L) (delivereds : List Delivered) (transcript : Transcript) (link : L)
-      (delivered : Delivered) (entries : List Entry) → slice_get transcripts number ≡ Some transcript
+      (delivered : Delivered) → slice_get transcripts number ≡ Some transcript
       → EachDelivered Is book history (take number transcripts) links delivereds last whole
-      → Is transcript last link delivered entries → after ≡ book_after last entries
-      → longer ≡ whole ++ numbered transcript.document (length whole) entries
+      → Is transcript last whole link delivered after longer
       → EachDelivered Is book history (take (number + 1) transcripts) (links ++ link ∷ [])
       (delivereds ++ delivered ∷ []) after longer
-  delivered-more book last after history whole longer transcripts number links delivereds transcript link delivered
-      entries at are is goes grows =
-      rw (take-more transcripts number transcript at, goes, grows) (each-push are is)
+  delivered-more book last after history whole longer transcripts number links delivereds transcript link delivered at
+      are is =
+      rw (take-more transcripts number transcript at) (each-push are is)
     where
       one-more : (n : ℕ) → n + 1 ≡ suc n
       one-more n = omega arith
@@ -74,20 +72,23 @@ module _ {L : Type 0} {Is : Transcript → Book → L → Delivered → List Ent
       (subst (λ (l : List Transcript). EachDelivered Is book history l yielded delivereds last whole)
       (take_all number transcripts (omega (arith, count, many, ap length same))) are)
 
--- the run of a document's reports with the book for themselves
-pub solo-runs : {State : Type 0} (by : Answering State) (limit : ℕ) (old new : Way State) (before behind : ℕ)
-    (own last entries : List Entry) (whole : Play) (events : List Event) (ending : Ending) (clock : ℕ) → own ≡ []
-    → entries ≡ last
-    → RunPlayed by limit 0 whole (outside_on old own before) events ending clock (outside_on new last behind)
-    → RunsOver by limit 0 old new entries whole events ending clock
-solo-runs by limit old new before behind own last entries whole events ending clock none same ran = record {
-  before = before;
-  behind = behind;
-  ran = subst (λ (l : List Entry). RunPlayed by limit 0 whole (outside_on old l before) events ending clock
-      (outside_on new entries behind)) none
-      (subst (λ (l : List Entry). RunPlayed by limit 0 whole (outside_on old own before) events ending clock
-      (outside_on new l behind)) (sym same) ran);
-}
+-- the run of a document's reports over a pass that had no entries yet
+pub solo-runs : {State : Type 0} (by : Answering State) (limit document : ℕ) (old new : Way State) (first last : Solo)
+    (number : ℕ) (whole : Play) (events : List Event) (ending : Ending) (clock : ℕ) → first.entries ≡ []
+    → first.document ≡ document
+    → RunPlayed by limit first.document whole (outside_on old first.entries number) events ending clock
+    (outside_on new last.entries (4294967295 - last.calls))
+    → RunsOver by limit document old new last.entries whole events ending clock
+solo-runs by limit document old new first last number whole events ending clock none is ran =
+    let behind = 4294967295 - last.calls in
+    record {
+      before = number;
+      behind = behind;
+      ran = subst (λ (d : ℕ). RunPlayed by limit d whole (outside_on old [] number) events ending clock
+          (outside_on new last.entries behind)) is
+          (subst (λ (l : List Entry). RunPlayed by limit first.document whole (outside_on old l number) events ending
+          clock (outside_on new last.entries behind)) none ran);
+    }
 
 -- what holds of each item holds of the one at an index
 pub all-at : {X : Type 0} (P : X → Type 0) (xs : List X) (k : ℕ) (x : X) → All P xs → slice_get xs k ≡ Some x → P x

@@ -1,5 +1,4 @@
 pub mod ClockLemmas
 pub mod DeliveryLemmas
 pub mod HistoryLemmas
-pub mod RebaseLemmas
 pub mod ReportedLemmas

@@ -8,8 +8,10 @@ use Rattle.std.proofs.lemmas.List.Elements.{All-nil, All-cons, All-head, All-tai
 use Rattle.value_lemmas.proofs.Lists.{AllByRecursion-append}
 use Rattle.book_calls.specs.declared.book.Book.{Book}
 use Rattle.book_calls.specs.declared.entry.Entry.{Entry}
-use Rattle.book_calls.specs.Entries.{Legal, book_after, entries_of}
-use Rattle.play_definitions.specs.Plays.{HasTurnsFrom, IsPlay, IsPlayOver, IsTranscript, RunsOver, Way, by_rules, opening_book}
+use Rattle.book_calls.specs.Entries.{HasTurnsFrom, Legal, book_after, entries_of}
+use Rattle.book_calls.specs.Solo.{AreOf}
+use Rattle.book_calls.proofs.EntryLemmas.{book-on, each-document, legal-on}
+use Rattle.play_definitions.specs.Plays.{IsPlay, IsPlayOver, IsTranscript, RunsOver, Way, by_rules, opening_book}
 use Rattle.play_definitions.specs.Plays.{outside_on, way_to_servers}
 use Rattle.link_traits.specs.Links.{IsForetold, LinkTold}
 use Rattle.link_routes.specs.declared.routes.Route.{Route}
@@ -27,11 +29,9 @@ use Rattle.script_events.specs.Endings.{HasText}
 use Rattle.report_delivery.specs.declared.delivery.Delivered.{Delivered}
 use Rattle.report_delivery.specs.Reporting.{ending_of, reporting}
 use Rattle.report_play.specs.Plays.{AreInOrderFrom, EachReported, IsReported, IsReportedPlay}
-use Rattle.report_play.specs.Private.Delivered.{CanReport, EachDelivered, IsDelivered, WasReported, numbered}
+use Rattle.report_play.specs.Private.Delivered.{CanReport, EachDelivered, IsDelivered, WasReported}
 use Rattle.report_play.proofs.ClockLemmas.{document-early, ran-early}
-use Rattle.report_play.proofs.HistoryLemmas.{book-further, each-numbered, each-so, legal-further}
-use Rattle.report_play.proofs.HistoryLemmas.{order-above, order-from, order-numbered, own-among, turns-further}
-use Rattle.report_play.proofs.RebaseLemmas.{runs-as}
+use Rattle.report_play.proofs.HistoryLemmas.{order-above, order-from, order-of, own-among}
 use Rattle.script_events.specs.declared.events.Ending.{Ending}
 use Rattle.script_events.specs.declared.events.Ending.TheVariants.{Memory}
 use Rattle.script_events.specs.declared.events.Event.{Event}
@@ -127,18 +127,11 @@ history-legal : {L State : Type 0} (by : Answering State) (told : L → LinkTold
     → Legal opening history → HasTurnsFrom 0 history → book ≡ book_after opening history
     → Legal opening whole × HasTurnsFrom 0 whole
 history-legal by told scenario opening EachDelivered.none legal turns is = (legal, turns)
-history-legal by told scenario opening (EachDelivered.one_more {book = book} {history = history} {entries = entries}
-    {transcript = transcript} one more) legal turns is =
+history-legal by told scenario opening (EachDelivered.one_more {book = book} {after = after} {history = history}
+    {longer = longer} one more) legal turns is =
     history-legal by told scenario opening more
-    (subst (λ (n : ℕ). Legal opening (history ++ numbered transcript.document n entries)) (zero_before (length history))
-    (legal-further opening 0 0 transcript.document history entries legal turns
-    (subst (λ (b : Book). Legal b entries) is one.legal)))
-    (subst (λ (n : ℕ). HasTurnsFrom 0 (history ++ numbered transcript.document n entries))
-    (zero_before (length history)) (turns-further 0 transcript.document history entries turns))
-    (book-further opening book history transcript.document (length history) entries is)
-  where
-    zero_before : (n : ℕ) → 0 + n ≡ n
-    zero_before n = omega arith
+    (legal-on opening book history one.entries longer is one.whole_is legal one.legal one.turns) one.turns
+    (book-on opening book history one.entries longer is one.whole_is after one.last_is)
 
 -- ---- over scripted servers
 
@@ -264,68 +257,65 @@ record Added (scenario : Scenario) (number : ℕ) (documents : List Document) (t
       → EachReported (IsReported scenario (done ++ rest)) number documents transcripts delivereds
 
 -- the reports of one document
-is-reported : (scenario : Scenario) (reports : List Entry) (number turn : ℕ) (document : Document) (book : Book)
-    (transcript : Transcript) (link : SimState) (delivered : Delivered) (entries : List Entry)
+is-reported : (scenario : Scenario) (reports : List Entry) (number : ℕ) (document : Document) (book last : Book)
+    (history longer : List Entry) (transcript : Transcript) (link : SimState) (delivered : Delivered)
+    (one : IsDelivered by_bytes sim_told scenario transcript book history link delivered last longer)
     → slice_get scenario.documents (number + 0) ≡ Some document → transcript.document ≡ number
-    → ServesAt scenario link → IsDelivered by_bytes sim_told scenario transcript book link delivered entries
-    → entries_of number reports ≡ numbered transcript.document turn entries
+    → ServesAt scenario link → entries_of number reports ≡ one.entries
     → IsReported scenario reports number document transcript delivered
-is-reported scenario reports number turn document book transcript link delivered entries at is served one own =
+is-reported scenario reports number document book last history longer transcript link delivered one at is served own =
     let limit = scenario.body_limit in
     let whole = reporting scenario.cookies document transcript.clock transcript.events in
     let ran = one.came document (ap (slice_get scenario.documents) (same transcript.document number is) ∙ at) in
     let old = way_of sim_told link in
     let new = way_of sim_told one.left in
     let ended = ending_of delivered.ending in
-    let serves = serves-after scenario limit 0 old new entries whole delivered.events ended transcript.clock served
-    ran in
+    let serves = serves-after scenario limit transcript.document old new one.entries whole delivered.events ended
+    transcript.clock served ran in
     record {
       document_is = one.number_is ∙ is;
       run_is = subst (λ (l : List Entry). RunsOver by_rules limit number (way_to_servers scenario)
           (way_to_servers scenario) l whole delivered.events ended transcript.clock) (sym own)
-          (subst (λ (n : ℕ). RunsOver by_rules limit n (way_to_servers scenario) (way_to_servers scenario)
-          (numbered transcript.document turn entries) whole delivered.events ended transcript.clock) is
+          (subst (λ (n : ℕ). RunsOver by_rules limit n (way_to_servers scenario) (way_to_servers scenario) one.entries
+          whole delivered.events ended transcript.clock) is
           (by-the-rules limit transcript.document old new (way_to_servers scenario) (way_to_servers scenario)
-          (numbered transcript.document turn entries) whole delivered.events ended transcript.clock
-          (to-servers scenario link served) (to-servers scenario one.left serves)
-          (runs-as by_bytes limit transcript.document turn old new entries whole delivered.events ended
-          transcript.clock ran)));
+          one.entries whole delivered.events ended transcript.clock (to-servers scenario link served)
+          (to-servers scenario one.left serves) ran));
     }
   where
     same : (d n : ℕ) → d ≡ n → d ≡ n + 0
     same d n e = omega (arith, e)
 
 -- those of one document, and of the documents behind it
-added-more : (scenario : Scenario) (number : ℕ) (document : Document) (documents : List Document) (book : Book)
-    (history entries whole : List Entry) (transcript : Transcript) (transcripts : List Transcript) (link : SimState)
+added-more : (scenario : Scenario) (number : ℕ) (document : Document) (documents : List Document) (book last : Book)
+    (history longer whole : List Entry) (transcript : Transcript) (transcripts : List Transcript) (link : SimState)
     (delivered : Delivered) (delivereds : List Delivered) → AreFrom scenario number (document ∷ documents)
     → number < length scenario.documents → transcript.document ≡ number → ServesAt scenario link
-    → IsDelivered by_bytes sim_told scenario transcript book link delivered entries
-    → Added scenario (number + 1) documents transcripts delivereds
-    (history ++ numbered transcript.document (length history) entries) whole
+    → IsDelivered by_bytes sim_told scenario transcript book history link delivered last longer
+    → Added scenario (number + 1) documents transcripts delivereds longer whole
     → Added scenario number (document ∷ documents) (transcript ∷ transcripts) (delivered ∷ delivereds) history whole
-added-more scenario number document documents book history entries whole transcript transcripts link delivered
+added-more scenario number document documents book last history longer whole transcript transcripts link delivered
     delivereds from few is served one more =
-    let turn = length history in
-    let mine = numbered transcript.document turn entries in
+    let mine = one.entries in
+    let of : AreOf number mine = subst (λ (n : ℕ). AreOf n mine) is one.of_document in
     record {
       rest = mine ++ more.rest;
-      whole_is = more.whole_is ∙ append_assoc history mine more.rest;
-      in_order = order-numbered number transcript.document turn entries more.rest (omega (arith, is))
-          (order-from transcript.document (number + 1) more.rest (omega (arith, is)) more.in_order);
+      whole_is = more.whole_is ∙ (ap (λ (l : List Entry). l ++ more.rest) one.whole_is
+          ∙ append_assoc history mine more.rest);
+      in_order = order-of number number mine more.rest (omega arith) of
+          (order-from number (number + 1) more.rest (omega arith) more.in_order);
       named = AllByRecursion-append (λ (e : Entry). e.document < length scenario.documents) mine more.rest
-          (each-numbered (λ n. n < length scenario.documents) transcript.document turn entries
-          (omega (arith, is, few))) more.named;
+          (each-document (λ n. n ≡ number) (λ n. n < length scenario.documents) mine
+          (λ n at. omega (arith, at, few)) of) more.named;
       each = λ done below. EachReported.one_more
-          (is-reported scenario (done ++ (mine ++ more.rest)) number turn document book transcript link delivered
-          entries (from 0) is served one
-          (own-among number transcript.document turn done entries more.rest is below
-          (order-above (number + 1) more.rest more.in_order)))
+          (is-reported scenario (done ++ (mine ++ more.rest)) number document book last history longer transcript link
+          delivered one (from 0) is served
+          (own-among number done mine more.rest of below (order-above (number + 1) more.rest more.in_order)))
           (subst (λ (l : List Entry). EachReported (IsReported scenario l) (number + 1) documents transcripts
           delivereds) (append_assoc done mine more.rest)
           (more.each (done ++ mine) (AllByRecursion-append (λ (e : Entry). e.document < number + 1) done mine
-          (each-so (λ n. n < number) (λ n. n < number + 1) done (λ n lt. omega (arith, lt)) below)
-          (each-numbered (λ n. n < number + 1) transcript.document turn entries (omega (arith, is))))));
+          (each-document (λ n. n < number) (λ n. n < number + 1) done (λ n lt. omega (arith, lt)) below)
+          (each-document (λ n. n ≡ number) (λ n. n < number + 1) mine (λ n at. omega (arith, at)) of))));
     }
 
 added : (scenario : Scenario) {number : ℕ} {documents : List Document} {book last : Book} {history whole : List Entry}
@@ -343,10 +333,11 @@ added scenario {number} {documents = []} (EachDelivered.none {history = history}
 }
 added scenario {number} {documents = document ∷ documents} EachDelivered.none are from many served = absurd are
 added scenario {number} {documents = []} (EachDelivered.one_more one more) are from many served = absurd are
-added scenario {number} {documents = document ∷ documents} (EachDelivered.one_more {book = book} {history = history}
-    {entries = entries} {whole = whole} {transcript = transcript} {link = link} {delivered = delivered}
-    {transcripts = transcripts} {links = links} {delivereds = delivereds} one more) are from many served =
-    added-more scenario number document documents book history entries whole transcript transcripts link delivered
+added scenario {number} {documents = document ∷ documents} (EachDelivered.one_more {book = book} {after = after}
+    {history = history} {longer = longer} {whole = whole} {transcript = transcript} {link = link}
+    {delivered = delivered} {transcripts = transcripts} {links = links} {delivereds = delivereds} one more) are from
+    many served =
+    added-more scenario number document documents book after history longer whole transcript transcripts link delivered
     delivereds from (omega (arith, many)) are.0 (All-head (ServesAt scenario) link links served) one
     (added scenario {number = number + 1} more are.1 (from-next scenario number document documents from)
     (omega (arith, many)) (All-tail (ServesAt scenario) link links served))

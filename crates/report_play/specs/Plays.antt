@@ -4,8 +4,8 @@
 use Rattle.std.specs.Prelude.{◌≡◌, ℕ, ◌+◌, ◌<◌, ◌≤◌, List, [], ◌∷◌, ◌++◌, length}
 use Rattle.std.specs.List.{AllByRecursion}
 use Rattle.book_calls.specs.declared.entry.Entry.{Entry}
-use Rattle.book_calls.specs.Entries.{Legal, entries_of}
-use Rattle.play_definitions.specs.Plays.{HasTurnsFrom, IsPlay, RunsOver, by_rules, opening_book, way_to_servers}
+use Rattle.book_calls.specs.Entries.{HasTurnsFrom, Legal, entries_of}
+use Rattle.play_definitions.specs.Plays.{IsPlay, RunsOver, by_rules, opening_book, way_to_servers}
 use Rattle.report_delivery.specs.declared.delivery.Delivered.{Delivered}
 use Rattle.report_delivery.specs.Reporting.{ending_of, reporting}
 use Rattle.script_events.specs.declared.events.Transcript.{Transcript}

@@ -9,10 +9,11 @@ ghost use Rattle.script_scenarios.specs.Valid.{IsValid};
 
 use crate::deliveries::deliver_all;
 use book_calls::History;
-use book_turns::{Closed, TurnBook, TurnPass};
+use book_turns::{Closed, TurnBook, TurnPass, TurnShare};
 use link_traits::Link;
 use play_definitions::Seating;
 use play_documents::play_all;
+use play_fetch::OverLink;
 use play_seats::open_play;
 use play_servers::SimLinks;
 use play_whole::SCRIPTED_THREADS;
@@ -67,12 +68,14 @@ fn play_seated<R: Threads + Wait + Sync, L: Link + Send + Drop>(
     ensures { IfOk result (λ reported. WasReported (over_link L.serves) L.told scenario.entry.now seats.items
         reported.transcripts reported.reports reported.history) }
 {
+    let share = TurnShare { rt, book: &book };
     let transcripts = play_all(
         rt,
+        &OverLink,
         alloc,
         scenario,
         scenario.now,
-        &book,
+        &share,
         SCRIPTED_THREADS,
         &mut seats,
     )?;
@@ -80,12 +83,12 @@ fn play_seated<R: Threads + Wait + Sync, L: Link + Send + Drop>(
         return Err(OutOfMemory);
     }
     let links = links_of(alloc, seats, &mut passes)?;
-    let Closed { book, mut history } = book.close(passes);
-    let reports = deliver_all(rt, alloc, scenario, &transcripts, links, book, &mut history)?;
+    let Closed { book, history } = book.close(passes);
+    let all = deliver_all(alloc, scenario, &transcripts, links, book, history)?;
     Ok(Reported {
         transcripts,
-        reports,
-        history,
+        reports: all.reports,
+        history: all.history,
     })
 }
 

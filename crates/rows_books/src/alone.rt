@@ -6,8 +6,6 @@ use crate::ops::op_of;
 use book_calls::{Book, Entry, History, Reply, Share, SoloBook, SoloPass};
 use rows_shell::{Failed, Shown};
 use std::alloc::Global;
-use std::sync::Wait;
-use std::thread::Threads;
 use value_places::Shared;
 
 /// Each operation on a book.
@@ -93,36 +91,34 @@ fn show_history(history: &History, shown: &mut Shown)
 }
 
 // Two calls on a pass.
-fn note_and_ask<R: Threads + Wait + Sync>(
-    rt: &R,
+fn note_and_ask(
     alloc: Global,
     share: &SoloBook,
     pass: &mut SoloPass,
 ) -> Result<(), Failed>
     requires { pass.old.calls ≡ 0 }
 {
-    share.call(rt, alloc, pass, Shared::new(alloc, op_of(alloc, NOTE)?)?)?;
-    share.call(rt, alloc, pass, Shared::new(alloc, op_of(alloc, KNOWN)?)?)?;
+    share.call(alloc, pass, Shared::new(alloc, op_of(alloc, NOTE)?)?)?;
+    share.call(alloc, pass, Shared::new(alloc, op_of(alloc, KNOWN)?)?)?;
     Ok(())
 }
 
 // The book and the history that a pass leaves.
-fn left<R: Threads + Wait + Sync>(rt: &R, alloc: Global, shown: &mut Shown) -> (Book, History) {
+fn left(alloc: Global, shown: &mut Shown) -> (Book, History) {
     let (share, mut pass) = SoloBook::new(alloc, Book::new(alloc));
-    if note_and_ask(rt, alloc, &share, &mut pass).is_err() {
+    if note_and_ask(alloc, &share, &mut pass).is_err() {
         shown.fail();
     }
     share.close(pass)
 }
 
 // A book that one pass has for itself. The book is asked once more, and its history takes an entry more.
-pub(crate) fn show_pass<R: Threads + Wait + Sync>(
-    rt: &R,
+pub(crate) fn show_pass(
     alloc: Global,
     shown: &mut Shown,
 ) -> Result<(), Failed> {
     shown.add(b"# one pass\n");
-    let (mut book, mut history) = left(rt, alloc, shown);
+    let (mut book, mut history) = left(alloc, shown);
     tell(alloc, &mut book, KNOWN, shown);
     lengthen(alloc, &mut history)?;
     show_history(&history, shown);

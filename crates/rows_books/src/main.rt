@@ -42,7 +42,7 @@ fn play_calls<R: Threads + Wait + Sync + Print + AllocGlobal>(rt: &R) -> Result<
     let alloc = rt.alloc();
     let mut shown = Shown::new(alloc);
     alone::show_book(alloc, &mut shown);
-    alone::show_pass(rt, alloc, &mut shown)?;
+    alone::show_pass(alloc, &mut shown)?;
     turns::show_passes(rt, alloc, &mut shown)?;
     threads::show_threads(rt, alloc, &mut shown)?;
     print_text(rt, shown)

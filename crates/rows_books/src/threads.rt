@@ -6,7 +6,7 @@ use crate::books::reply;
 use crate::ops::{numbered, turn_of};
 use crate::passes::{collected, two_documents};
 use book_calls::{Book, Entry, History, Reply, Share};
-use book_turns::{TurnBook, TurnPass};
+use book_turns::{TurnBook, TurnPass, TurnShare};
 use rows_shell::{Failed, Held, Shown};
 use std::alloc::Global;
 use std::sync::Wait;
@@ -44,7 +44,8 @@ fn make_call<R: Threads + Wait + Sync>(
     ensures left { left_of pass.old - 1 ≤ left_of pass.new }
 {
     let op = Shared::new(alloc, numbered(alloc, turn, number)?)?;
-    Ok(book.call(rt, alloc, pass, op)?)
+    let share = TurnShare { rt, book };
+    Ok(share.call(alloc, pass, op)?)
 }
 
 // A thread's calls, a lesson, a question and a clear by turns. After one that is refused the others are still made.

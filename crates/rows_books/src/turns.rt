@@ -6,7 +6,7 @@ use crate::alone::show_entries;
 use crate::ops::op_of;
 use crate::passes::{collected, two_documents};
 use book_calls::{Book, History, Share};
-use book_turns::{FIRST, TurnBook, TurnPass};
+use book_turns::{FIRST, TurnBook, TurnPass, TurnShare};
 use rows_shell::{Failed, Shown};
 use std::alloc::Global;
 use std::sync::Wait;
@@ -27,9 +27,10 @@ fn learn_and_ask<R: Threads + Wait + Sync>(
     ensures one { (one.new.seat.table_id ≡ one.old.seat.table_id) × (one.new.document ≡ one.old.document) }
 {
     let learnt = op_of(alloc, b"learn k http://b.test/x other 5 PUT - 9")?;
-    book.call(rt, alloc, zero, Shared::new(alloc, learnt)?)?;
+    let share = TurnShare { rt, book };
+    share.call(alloc, zero, Shared::new(alloc, learnt)?)?;
     let asked = op_of(alloc, b"covers k http://b.test/x other PUT - 9")?;
-    book.call(rt, alloc, one, Shared::new(alloc, asked)?)?;
+    share.call(alloc, one, Shared::new(alloc, asked)?)?;
     Ok(())
 }
 

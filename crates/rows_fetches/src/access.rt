@@ -11,8 +11,6 @@ use crate::fetches::show_fetch;
 use rows_links::{show_answer, show_served, show_table};
 use rows_shell::{Failed, Row, Shown, named};
 use std::alloc::Global;
-use std::sync::Wait;
-use std::thread::Threads;
 use value_text::before_byte;
 
 /// The kinds of rows.
@@ -38,8 +36,7 @@ pub fn kind_of(line: &[u8]) -> Result<AccessKind, Failed> {
 }
 
 // Shows what a row comes to.
-fn show_row<R: Threads + Wait + Sync>(
-    rt: &R,
+fn show_row(
     alloc: Global,
     kind: AccessKind,
     row: &Row,
@@ -49,12 +46,12 @@ fn show_row<R: Threads + Wait + Sync>(
         AccessKind::Table => show_table(alloc, row, shown),
         AccessKind::Answer => show_answer(alloc, row, shown),
         AccessKind::Serve => show_served(alloc, row, shown),
-        AccessKind::Fetch => show_fetch(rt, alloc, row, shown),
+        AccessKind::Fetch => show_fetch(alloc, row, shown),
     }
 }
 
 /// Shows a line of this kind, and what it comes to.
-pub fn play_access<R: Threads + Wait + Sync + AllocGlobal>(
+pub fn play_access<R: AllocGlobal>(
     rt: &R,
     kind: AccessKind,
     line: &[u8],
@@ -63,7 +60,7 @@ pub fn play_access<R: Threads + Wait + Sync + AllocGlobal>(
     shown.add(line);
     shown.add(b" => ");
     let row = Row::of(rt.alloc(), line, b'\t')?;
-    show_row(rt, rt.alloc(), kind, &row, shown)?;
+    show_row(rt.alloc(), kind, &row, shown)?;
     shown.add(b"\n");
     Ok(())
 }

@@ -9,14 +9,13 @@ use crate::scenarios::scenario_in;
 use book_calls::{Book, History, Share, SoloBook, SoloPass};
 use link_traits::MemorySink;
 use play_documents::drive;
+use play_fetch::OverLink;
 use play_text::write_play;
 use rows_links::{link_in, show_link};
 use rows_shell::{Failed, Held, Shown};
 use script_events::{Transcripts, has_text};
 use script_scenarios::Scenario;
 use std::alloc::Global;
-use std::sync::Wait;
-use std::thread::Threads;
 use value_text::before_byte;
 
 /// How many rows are played over one book at most.
@@ -40,8 +39,7 @@ fn scenario_of(alloc: Global, line: &str) -> Result<Held<Scenario>, Failed>
 
 // Plays a row's document over its link, and tells of the link. The document's transcript is added to the
 // others.
-fn play_row<R: Threads + Wait + Sync, S: Share>(
-    rt: &R,
+fn play_row<S: Share>(
     alloc: Global,
     line: &str,
     share: &S,
@@ -60,15 +58,14 @@ fn play_row<R: Threads + Wait + Sync, S: Share>(
     let held = scenario_of(alloc, line)?;
     let scenario = &held.value;
     let now = scenario.now;
-    let transcript = drive(rt, alloc, scenario, 0, now, share, pass, &mut link.value);
+    let transcript = drive(&OverLink, alloc, scenario, 0, now, share, pass, &mut link.value);
     show_link(&link.value, shown);
     transcripts.push(transcript)?;
     Ok(())
 }
 
 // Plays rows one after another over a share of one book.
-fn play_each<R: Threads + Wait + Sync, S: Share>(
-    rt: &R,
+fn play_each<S: Share>(
     alloc: Global,
     rows: &[&str],
     share: &S,
@@ -80,7 +77,7 @@ fn play_each<R: Threads + Wait + Sync, S: Share>(
     requires left { 129024 * length rows.now ≤ (S.account pass.old).left }
 {
     for row in rows {
-        play_row(rt, alloc, row, share, pass, transcripts, shown)?;
+        play_row(alloc, row, share, pass, transcripts, shown)?;
     }
     Ok(())
 }
@@ -110,7 +107,7 @@ pub(crate) fn show(
 }
 
 /// Plays rows one after another over one book that nobody has written into yet, 64 of them at most.
-pub fn play_group<R: Threads + Wait + Sync + AllocGlobal>(
+pub fn play_group<R: AllocGlobal>(
     rt: &R,
     rows: &[&str],
     shown: &mut Shown,
@@ -121,7 +118,7 @@ pub fn play_group<R: Threads + Wait + Sync + AllocGlobal>(
     let alloc = rt.alloc();
     let (share, mut pass) = SoloBook::new(alloc, Book::new(alloc));
     let mut transcripts = Transcripts::new(alloc);
-    if play_each(rt, alloc, rows, &share, &mut pass, &mut transcripts, shown).is_err() {
+    if play_each(alloc, rows, &share, &mut pass, &mut transcripts, shown).is_err() {
         shown.fail();
     }
     let history = history_of(share, pass);

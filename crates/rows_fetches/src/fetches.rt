@@ -15,8 +15,6 @@ use rows_shell::{Failed, Held, Row, Shown, client_at};
 use script_events::Event;
 use server_tables::{AllowTable, answer};
 use std::alloc::Global;
-use std::sync::Wait;
-use std::thread::Threads;
 use value_requests::{BodyEnd, Client, Hop, NetError, Outcome, Response};
 use value_text::{Bytes, BytesList};
 
@@ -47,8 +45,7 @@ fn sent(alloc: Global, link: &MemoryLink, number: usize) -> Result<Option<Bytes>
 }
 
 // What a fetch for a client over a link has shown and come to.
-fn fetched_over<R: Threads + Wait + Sync>(
-    rt: &R,
+fn fetched_over(
     alloc: Global,
     client: &Client,
     text: &[u8],
@@ -57,13 +54,12 @@ fn fetched_over<R: Threads + Wait + Sync>(
     requires { IsClient client.now }
 {
     let request = request_in(alloc, client, text)?;
-    let (value, _history) = fetch(rt, alloc, request, LIMIT, client, link)?;
+    let (value, _history) = fetch(alloc, request, LIMIT, client, link)?;
     Ok(Held { value })
 }
 
 // Fetches over a link with these answers. Where a request was sent that has none, its bytes; else it is shown.
-fn try_with<R: Threads + Wait + Sync>(
-    rt: &R,
+fn try_with(
     alloc: Global,
     client: &Client,
     text: &[u8],
@@ -75,7 +71,7 @@ fn try_with<R: Threads + Wait + Sync>(
     let mut link = Held {
         value: link_with(alloc, answers)?,
     };
-    let run = fetched_over(rt, alloc, client, text, &mut link.value)?;
+    let run = fetched_over(alloc, client, text, &mut link.value)?;
     let request = sent(alloc, &link.value, answers.len())?;
     if request.is_none() {
         add_run(&run.value, shown);
@@ -84,8 +80,7 @@ fn try_with<R: Threads + Wait + Sync>(
 }
 
 // Fetches from a server that answers by the table.
-fn fetch_from<R: Threads + Wait + Sync>(
-    rt: &R,
+fn fetch_from(
     alloc: Global,
     table: &AllowTable,
     client: &Client,
@@ -96,7 +91,7 @@ fn fetch_from<R: Threads + Wait + Sync>(
 {
     let mut answers = BytesList::new(alloc);
     for _ in 0..MOST_ASKS {
-        let Some(request) = try_with(rt, alloc, client, text, &answers, shown)? else {
+        let Some(request) = try_with(alloc, client, text, &answers, shown)? else {
             return Ok(());
         };
         answers.push(answer(alloc, table, request.as_slice())?)?;
@@ -105,8 +100,7 @@ fn fetch_from<R: Threads + Wait + Sync>(
 }
 
 // Shows what the fetch of a row sends and comes to.
-pub(crate) fn show_fetch<R: Threads + Wait + Sync>(
-    rt: &R,
+pub(crate) fn show_fetch(
     alloc: Global,
     row: &Row,
     shown: &mut Shown,
@@ -115,7 +109,7 @@ pub(crate) fn show_fetch<R: Threads + Wait + Sync>(
     let client = Held {
         value: client_at(alloc, row.text(2))?,
     };
-    fetch_from(rt, alloc, &table, &client.value, row.text(3), shown)
+    fetch_from(alloc, &table, &client.value, row.text(3), shown)
 }
 
 // Adds what a fetch sent and came to.

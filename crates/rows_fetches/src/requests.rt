@@ -17,8 +17,6 @@ use rows_links::{link_in, show_link};
 use rows_shell::{Failed, Held, Shown, client_at, number, request_of, value_of};
 use script_events::{Ending, Event, Transcript, Transcripts};
 use std::alloc::Global;
-use std::sync::Wait;
-use std::thread::Threads;
 use value_requests::{Client, Cookies, Request};
 use value_text::{Bytes, after_byte, before_byte};
 
@@ -34,8 +32,7 @@ fn limit_of(words: &[u8]) -> Result<u32, Failed> {
 }
 
 // Fetches a request for a client, which has no policies and no cookies, over a share of a book.
-fn fetch_by<R: Threads + Wait + Sync, S: Share>(
-    rt: &R,
+fn fetch_by<S: Share>(
     alloc: Global,
     request: Request,
     limit: u32,
@@ -54,7 +51,6 @@ fn fetch_by<R: Threads + Wait + Sync, S: Share>(
     };
     let cookies = Cookies::new(alloc);
     Ok(drive_fetch(
-        rt,
         alloc,
         request,
         client,
@@ -69,8 +65,7 @@ fn fetch_by<R: Threads + Wait + Sync, S: Share>(
 }
 
 // The same over a book of its own, with the history.
-pub(crate) fn fetch<R: Threads + Wait + Sync>(
-    rt: &R,
+pub(crate) fn fetch(
     alloc: Global,
     request: Request,
     limit: u32,
@@ -81,7 +76,7 @@ pub(crate) fn fetch<R: Threads + Wait + Sync>(
     requires client { IsClient client.now }
 {
     let (share, mut pass) = SoloBook::new(alloc, Book::new(alloc));
-    let run = fetch_by(rt, alloc, request, limit, client, &share, &mut pass, link);
+    let run = fetch_by(alloc, request, limit, client, &share, &mut pass, link);
     let history = history_of(share, pass);
     Ok((run?, history))
 }
@@ -105,8 +100,7 @@ fn transcripts_of(alloc: Global, key: Bytes, run: FetchRun) -> Result<Transcript
 }
 
 // Fetches the request of a row for a client over its link, and shows its text, with the history.
-fn play_for<R: Threads + Wait + Sync>(
-    rt: &R,
+fn play_for(
     alloc: Global,
     line: &[u8],
     client: &Client,
@@ -118,7 +112,7 @@ fn play_for<R: Threads + Wait + Sync>(
     let limit = limit_of(before_byte(after_byte(line, b'\t'), b'\t'))?;
     let key = client.key.copy(alloc)?;
     let request = request_of(alloc, before_byte(line, b'\t'))?;
-    let (run, history) = fetch(rt, alloc, Box::into_inner(request), limit, client, link)?;
+    let (run, history) = fetch(alloc, Box::into_inner(request), limit, client, link)?;
     show_link(link, shown);
     let transcripts = transcripts_of(alloc, key, run)?;
     show(alloc, &transcripts, &history, shown)
@@ -126,7 +120,7 @@ fn play_for<R: Threads + Wait + Sync>(
 
 /// Fetches the request of a row over its link and a book of its own, and shows how often the link was asked and failed,
 /// and the text of the fetch.
-pub fn play_request<R: Threads + Wait + Sync + AllocGlobal>(
+pub fn play_request<R: AllocGlobal>(
     rt: &R,
     line: &str,
     shown: &mut Shown,
@@ -142,7 +136,6 @@ pub fn play_request<R: Threads + Wait + Sync + AllocGlobal>(
         )?,
     };
     play_for(
-        rt,
         alloc,
         line.as_bytes(),
         &client.value,

@@ -8,9 +8,10 @@ ghost use Rattle.book_turns.specs.Passes.{left_of, made_of};
 
 use crate::scenarios::{TWO_DOCUMENTS, scenario_in};
 use book_calls::Book;
-use book_turns::{TurnBook, TurnPass};
+use book_turns::{TurnBook, TurnPass, TurnShare};
 use play_definitions::Seating;
 use play_documents::play_all;
+use play_fetch::OverLink;
 use rows_links::{Asked, WaitingLink, WaitingLinks, waiting_for};
 use rows_shell::{Failed, Shown};
 use script_events::{Ending, Transcript};
@@ -72,7 +73,8 @@ fn play_on<'a, R: Threads + Wait + Sync>(
     requires left { All (λ s. left_of s.pass ≡ 4294967295) seats.old.items }
     requires belong { All (λ s. s.pass.seat.table_id ≡ book.now.table.shared.table_id) seats.old.items }
 {
-    let transcripts = play_all(rt, alloc, scenario, 0, book, 2, seats)?;
+    let share = TurnShare { rt, book };
+    let transcripts = play_all(rt, &OverLink, alloc, scenario, 0, &share, 2, seats)?;
     for transcript in transcripts.as_slice() {
         show(transcript, shown);
     }

@@ -13,7 +13,8 @@ use crate::headers;
 use policy_safelist::{Appended, Guard, guarded_append};
 use rows_shell::{Failed, Row, Shown, list_of, named};
 use std::alloc::Global;
-use value_headers::{Extracted, HeaderList, Rule};
+use value_headers::HeaderList;
+use value_lists::{Extracted, Rule, extract, split_values};
 use value_text::{after_byte, before_byte};
 
 /// Where the list begins in the rows of a kind.
@@ -91,12 +92,12 @@ fn taken(
 ) -> Result<(), Failed> {
     let name = row.text(0);
     if let Ok(rule) = named(&RULES, kind.as_bytes()) {
-        show_extracted(&list.extract(alloc, name, rule)?, shown);
+        show_extracted(&extract(alloc, list, name, rule)?, shown);
         return Ok(());
     }
     match kind {
         "get" => shown.add_text(list.get(alloc, name)?),
-        "split" => shown.add_list(list.split_values(alloc, name)?),
+        "split" => shown.add_list(split_values(alloc, list, name)?),
         _ => return headers::taken(alloc, kind, row, list, shown),
     }
     Ok(())

@@ -26,7 +26,7 @@ use policy_integrity::{matches, parse_metadata};
 use policy_safelist::{is_forbidden_method, is_safelisted};
 use rows_shell::{Failed, Row, Shown};
 use std::alloc::Global;
-use value_headers::split_value;
+use value_lists::split_value;
 use value_mime::{is_javascript, mime_blocked, nosniff_blocked};
 use value_origins::is_local_name;
 use value_text::{

@@ -37,7 +37,7 @@ fn run<R: Threads + Wait + Sync>(
         runs::report(rt, alloc, program.as_slice(), streams, shown);
         Ok(())
     } else if has_word(words, b"audit") {
-        runs::audit(rt, alloc, program.as_slice(), streams, shown);
+        runs::audit(alloc, program.as_slice(), streams, shown);
         Ok(())
     } else {
         play_alone(rt, alloc, program.as_slice(), streams, shown)

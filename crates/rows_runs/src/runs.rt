@@ -34,15 +34,13 @@ pub(crate) fn play<R: Threads + Wait + Sync, N: Links>(
 }
 
 // Runs `playaudit` with these words.
-pub(crate) fn audit<R: Threads + Wait + Sync>(
-    rt: &R,
+pub(crate) fn audit(
     alloc: Global,
     words: &[String],
     streams: &mut Streams,
     shown: &mut Shown,
 ) {
     let status = playaudit(
-        rt,
         alloc,
         words,
         &mut streams.input.value,

@@ -1,4 +1,4 @@
--- Texts without placeholders, and header values and bodies that are cut.
+-- Texts without placeholders, and URLs, header values and bodies that are cut.
 use Rattle.std.proofs.Common.{◌≡◌, ℕ, ◌+◌, ◌≤◌, ◌<◌, Bool, true, false, cond, List, [], ◌∷◌, ◌++◌, length, take}
 use Rattle.std.proofs.Common.{Option, Some, None, refl, ap, sym, subst, inl, inr, ◌∙◌, arith, take_all}
 use Rattle.std.proofs.lemmas.Bool.{or_parts}
@@ -20,14 +20,17 @@ use Rattle.value_text.specs.Tokens.{is_token}
 use Rattle.value_text.specs.Values.{is_header_value}
 use Rattle.url.specs.Parts.{Parts, has_credentials}
 use Rattle.fetch_requests.specs.Making.{fault_or, faults, first_fault, is_long_body, made, new_request, request_for}
+use Rattle.fetch_requests.specs.Loading.{load_for, new_load}
 use Rattle.std.specs.Bool.{then_some}
+use Rattle.value_requests.specs.Urls.{unless_long, url_against}
 use Rattle.fetch_requests.specs.Making.{first_bad, given_size, is_navigate, is_no_cors, is_too_long, pair_size, url_given}
 use Rattle.script_commands.specs.Pieces.{pieces_behind}
 use Rattle.script_commands.specs.Templates.{filled, opens, pieces, placed}
 use Rattle.value_text.specs.Pieces.{with_front}
 use Rattle.script_events.specs.declared.events.Event.{Event}
 use Rattle.script_filling.proofs.CutLemmas.{cut-length, cut-value, uncut-value}
-use Rattle.script_filling.specs.Filling.{cut_body, cut_pair, is_plain, lacks_dollar, lacks_dollar_in, with_cuts}
+use Rattle.script_filling.specs.Filling.{cut_body, cut_pair, cut_url, is_plain, lacks_dollar, lacks_dollar_in}
+use Rattle.script_filling.specs.Filling.{with_all_cuts, with_cuts, with_url_cut}
 use Rattle.script_filling.specs.Results.{value_of}
 use Rattle.script_filling.specs.Filled.{filled_init, filled_load, filled_pair}
 
@@ -269,22 +272,69 @@ by-url client init None = refl
 by-url client init (Some url) = made-by client init url (is_too_long init) refl
 
 -- the request, or its fault, is the same where headers and body are cut
-pub cut-same : (client : Client) (init : Init) → new_request client (with_cuts init) ≡ new_request client init
-cut-same client init = by-url client init (url_given client init.url)
+cuts-same : (client : Client) (init : Init) → new_request client (with_cuts init) ≡ new_request client init
+cuts-same client init = by-url client init (url_given client init.url)
 
--- ---- a body that grows
+-- ---- a URL that is cut
+
+long-url : (n : ℕ) → nat_lt 786432 n ≡ true → 786432 < n
+long-url n more = grind (arith, more)
+
+short-url : (n : ℕ) → nat_lt 786432 n ≡ false → n ≤ 786433
+short-url n less = grind (arith, less)
+
+too-long-url : (n : ℕ) → 786432 < n → nat_lt 786432 n ≡ true
+too-long-url n more = grind (arith, more)
+
+url-by : (client : Client) (text : List ℕ) (long : Bool) → nat_lt 786432 (length text) ≡ long
+    → url_given client (cut_url text) ≡ url_given client text
+url-by client text false short = ap (url_given client) (take_all 786433 text (short-url (length text) short))
+url-by client text true long =
+    let cut : length (take 786433 text) ≡ min 786433 (length text) = length-take 786433 text in
+    let still : nat_lt 786432 (length (take 786433 text)) ≡ true =
+    too-long-url (length (take 786433 text)) (omega (arith, cut, long-url (length text) long)) in
+    ap (λ (b : Bool). cond b None (unless_long (url_against client.url (take 786433 text)))) still
+    ∙ sym (ap (λ (b : Bool). cond b None (unless_long (url_against client.url text))) long)
+
+url-same : (client : Client) (text : List ℕ) → url_given client (cut_url text) ≡ url_given client text
+url-same client text = url-by client text (nat_lt 786432 (length text)) refl
+
+-- the text of the URL counts for nothing else
+url-aside : (client : Client) (init : Init) (text : List ℕ) (url : Option Parts)
+    → request_for client (record init { url = text }) url ≡ request_for client init url
+url-aside client init text None = refl
+url-aside client init text (Some url) = refl
+
+-- the request, or its fault, is the same where URL, headers and body are cut
+pub cut-same : (client : Client) (init : Init) → new_request client (with_all_cuts init) ≡ new_request client init
+cut-same client init =
+    url-aside client (with_cuts init) (cut_url init.url) (url_given client (cut_url init.url))
+    ∙ ap (request_for client (with_cuts init)) (url-same client init.url)
+    ∙ cuts-same client init
+
+load-aside : (client : Client) (init : LoadInit) (text : List ℕ) (url : Option Parts)
+    → load_for client (record init { url = text }) url ≡ load_for client init url
+load-aside client init text None = refl
+load-aside client init text (Some url) = refl
+
+pub load-same : (client : Client) (init : LoadInit) → new_load client (with_url_cut init) ≡ new_load client init
+load-same client init =
+    load-aside client init (cut_url init.url) (url_given client (cut_url init.url))
+    ∙ ap (load_for client init) (url-same client init.url)
+
+-- ---- a text of which no more is wanted
 
 -- it is longer than it may be
-pub cut-grown : (value : List ℕ → List ℕ) (template text : List ℕ) (rest : Option (List ℕ))
-    → filled value template ≡ text ++ flat_map (placed value) (pieces_behind rest) → 65537 ≤ length text
-    → take 65537 text ≡ cut_body (filled value template)
-cut-grown value template text rest so long =
-    sym (ap (take 65537) so ∙ take-append-le 65537 text (flat_map (placed value) (pieces_behind rest)) long)
+pub cut-grown : (most : ℕ) (value : List ℕ → List ℕ) (template text : List ℕ) (rest : Option (List ℕ))
+    → filled value template ≡ text ++ flat_map (placed value) (pieces_behind rest) → most ≤ length text
+    → take most text ≡ take most (filled value template)
+cut-grown most value template text rest so long =
+    sym (ap (take most) so ∙ take-append-le most text (flat_map (placed value) (pieces_behind rest)) long)
 
 -- or all of it is there
-pub cut-whole : (value : List ℕ → List ℕ) (template text : List ℕ) (rest : Option (List ℕ))
+pub cut-whole : (most : ℕ) (value : List ℕ → List ℕ) (template text : List ℕ) (rest : Option (List ℕ))
     → filled value template ≡ text ++ flat_map (placed value) (pieces_behind rest) → rest ≡ None
-    → take 65537 text ≡ cut_body (filled value template)
-cut-whole value template text rest so none =
-    sym (ap (take 65537) (so ∙ ap (λ (r : Option (List ℕ)). text ++ flat_map (placed value) (pieces_behind r)) none
+    → take most text ≡ take most (filled value template)
+cut-whole most value template text rest so none =
+    sym (ap (take most) (so ∙ ap (λ (r : Option (List ℕ)). text ++ flat_map (placed value) (pieces_behind r)) none
     ∙ append-nil text))

@@ -7,6 +7,7 @@ use Rattle.std.specs.List.{list_any}
 use Rattle.value_text.specs.Texts.{Text}
 use Rattle.value_text.specs.Values.{is_header_value}
 use Rattle.value_requests.specs.declared.init.Init.{Init}
+use Rattle.value_requests.specs.declared.init.LoadInit.{LoadInit}
 use Rattle.value_requests.specs.declared.init.Pair.{Pair}
 
 -- the byte behind what is kept of a value: a letter, or NUL, which no header value has, where the value is none
@@ -29,6 +30,18 @@ cut_body body = take 65537 body
 -- what is asked for, with its headers and its body cut so
 abbrev pub with_cuts : Init → Init
 with_cuts init = record init { headers = map cut_pair init.headers; body = option_map cut_body init.body }
+
+-- the first 786,433 bytes of the text of a URL, where one of 786,432 may give a URL
+abbrev pub cut_url : Text → Text
+cut_url text = take 786433 text
+
+-- what a load asks for, with its URL cut so
+abbrev pub with_url_cut : LoadInit → LoadInit
+with_url_cut init = record init { url = cut_url init.url }
+
+-- what a fetch asks for, with its URL cut so, too
+abbrev pub with_all_cuts : Init → Init
+with_all_cuts init = record (with_cuts init) { url = cut_url init.url }
 
 -- the text has no `$`
 abbrev pub lacks_dollar : Text → Bool

@@ -1,5 +1,5 @@
 // What a script asks for, with the parts of the last result in the place of placeholders.
-ghost use Rattle.std.specs.Prelude.{◌≡◌, ◌++◌, IfOk, OnOk, map, option_map};
+ghost use Rattle.std.specs.Prelude.{◌≡◌, ◌++◌, IfOk, OnOk, map, option_map, take};
 ghost use Rattle.value_text.specs.Trims.{http_whitespace, trimmed};
 ghost use Rattle.script_commands.specs.Templates.{filled, placed};
 ghost use Rattle.script_filling.specs.Filling as short;
@@ -17,18 +17,8 @@ use value_text::{Bytes, OutOfMemory, after_byte, before_byte, is_value, trim_htt
 /// How many bytes of a body are handed on at most: one more than a request's body may have.
 const MOST_BODY: usize = 65_537;
 
-/// How many bytes the texts that documents fill at once have together, at most: each document has an even part, and a
-/// sixteenth at least. Memory is refused for a longer one, of which a URL may lose many again, and a header value those
-/// at its ends. Reading a URL takes three times its length besides.
-const MOST_FILLED: usize = 12_582_912;
-
-/// Among how many documents that room is divided at most.
-const MOST_PARTS: usize = 16;
-
-// How many bytes a text has at most once its placeholders were replaced, where so many documents are played.
-fn room_of(documents: usize) -> usize {
-    MOST_FILLED / documents.clamp(1, MOST_PARTS)
-}
+/// How many bytes of a URL's text are handed on at most: one more than it may have.
+const MOST_URL: usize = 786_433;
 
 // Adds what a piece after a `${` comes to: the value of its name, and what follows the `}`.
 fn add_placed(
@@ -44,58 +34,34 @@ fn add_placed(
     Ok(())
 }
 
-// A URL with its placeholders replaced by the parts of the last result. Where it gets longer than there is room it is
-// want of memory.
-fn fill_url(
+// The first bytes, so many at most, of a text with its placeholders replaced by the parts of the last result. It stops
+// growing once it has them.
+fn fill_first(
     alloc: Global,
-    documents: usize,
+    most: usize,
     last: Option<&Event>,
     template: &[u8],
 ) -> Result<Bytes, OutOfMemory>
-    ensures { IfOk result (λ text. text ≡ filled (value_of (lent_result last.entry)) template.now) }
-{
-    let (first, mut rest) = next_piece(template);
-    if rest.is_none() {
-        return Bytes::of(alloc, first);
-    }
-    let room = room_of(documents);
-    let mut text = Vec::with_capacity(alloc, template.len())?;
-    text.extend_from_slice(first)?;
-    while let Some(behind) = rest {
-        let (piece, more) = next_piece(behind);
-        add_placed(&mut text, alloc, last, piece)?;
-        if text.len() > room {
-            return Err(OutOfMemory);
-        }
-        rest = more;
-    }
-    Ok(Bytes::from_vec(text))
-}
-
-// A body with its placeholders replaced. It stops growing once it is longer than a request's body may be.
-fn fill_body(alloc: Global, last: Option<&Event>, template: &[u8]) -> Result<Bytes, OutOfMemory>
-    ensures { IfOk result (λ text. text ≡ short.cut_body (filled (value_of (lent_result last.entry)) template.now)) }
+    ensures { IfOk result (λ text. text ≡ take most (filled (value_of (lent_result last.entry)) template.now)) }
 {
     let (first, mut rest) = next_piece(template);
     let mut text = Vec::new(alloc);
     text.extend_from_slice(first)?;
     while let Some(behind) = rest {
-        if text.len() >= MOST_BODY {
+        if text.len() >= most {
             break;
         }
         let (piece, more) = next_piece(behind);
         add_placed(&mut text, alloc, last, piece)?;
         rest = more;
     }
-    text.truncate(MOST_BODY);
+    text.truncate(most);
     Ok(Bytes::from_vec(text))
 }
 
 // A header value with its placeholders replaced, of which no more is kept than is needed to normalise and to cut it.
-// Where the whole would get longer than there is room it is want of memory.
 fn fill_value(
     alloc: Global,
-    documents: usize,
     last: Option<&Event>,
     template: &[u8],
 ) -> Result<Bytes, OutOfMemory>
@@ -106,17 +72,10 @@ fn fill_value(
     if rest.is_none() {
         return Bytes::of(alloc, first);
     }
-    let room = room_of(documents);
     let mut text = Vec::from_slice(alloc, first)?;
-    let mut length = text.len();
     while let Some(behind) = rest {
         let (piece, more) = next_piece(behind);
-        let before = text.len();
         add_placed(&mut text, alloc, last, piece)?;
-        length = length.saturating_add(text.len().saturating_sub(before));
-        if length > room {
-            return Err(OutOfMemory);
-        }
         text = kept(alloc, text)?;
         rest = more;
     }
@@ -157,13 +116,12 @@ fn cut(alloc: Global, value: Bytes) -> Result<Bytes, OutOfMemory>
 // A header, its value filled, normalised and then cut.
 fn filled_pair(
     alloc: Global,
-    documents: usize,
     last: Option<&Event>,
     pair: &Pair,
 ) -> Result<Pair, OutOfMemory>
     ensures { IfOk result (λ filled. filled ≡ short.cut_pair (spec.filled_pair (lent_result last.entry) pair.now)) }
 {
-    let value = fill_value(alloc, documents, last, pair.value.as_slice())?;
+    let value = fill_value(alloc, last, pair.value.as_slice())?;
     let value = normalized(alloc, value)?;
     Ok(Pair {
         name: pair.name.copy(alloc)?,
@@ -174,7 +132,6 @@ fn filled_pair(
 // Headers, each with its value filled, normalised and then cut.
 fn filled_pairs(
     alloc: Global,
-    documents: usize,
     last: Option<&Event>,
     pairs: &[Pair],
 ) -> Result<Pairs, OutOfMemory>
@@ -183,7 +140,7 @@ fn filled_pairs(
 {
     let mut filled = Pairs::new(alloc);
     for pair in pairs {
-        filled.push(filled_pair(alloc, documents, last, pair)?)?;
+        filled.push(filled_pair(alloc, last, pair)?)?;
     }
     Ok(filled)
 }
@@ -199,7 +156,7 @@ fn filled_body(
 {
     match body {
         None => Ok(None),
-        Some(body) => Ok(Some(fill_body(alloc, last, body.as_slice())?)),
+        Some(body) => Ok(Some(fill_first(alloc, MOST_BODY, last, body.as_slice())?)),
     }
 }
 
@@ -209,24 +166,23 @@ fn filled_body(
 /// that is longer than 16,384 bytes, which no request has, the first 16,384 are handed on, and behind them a
 /// letter, or NUL where the value has a byte that no header value has: so it is refused for what the whole
 /// one would be. Its rest is looked at as it comes, and not kept. A body that gets longer than 65,536 bytes,
-/// which no request has either, stops growing there, and its first 65,537 are handed on. A URL or a value
-/// that gets longer than 12,582,912 bytes, divided by the number of documents, at most by 16, is want of memory.
+/// which no request has either, stops growing there, and its first 65,537 are handed on. So it is with a URL of more than
+/// 786,432 bytes, which is none.
 pub fn filled_init(
     alloc: Global,
-    documents: usize,
     last: Option<&Event>,
     init: &Init,
 ) -> Result<Init, OutOfMemory>
     ensures { IfOk result
-        (λ filled. filled ≡ short.with_cuts (spec.filled_init (lent_result last.entry) init.now)) }
+        (λ filled. filled ≡ short.with_all_cuts (spec.filled_init (lent_result last.entry) init.now)) }
 {
     Ok(Init {
-        url: fill_url(alloc, documents, last, init.url.as_slice())?,
+        url: fill_first(alloc, MOST_URL, last, init.url.as_slice())?,
         method: init.method.copy(alloc)?,
         mode: init.mode,
         credentials: init.credentials,
         redirect: init.redirect,
-        headers: filled_pairs(alloc, documents, last, init.headers.as_slice())?,
+        headers: filled_pairs(alloc, last, init.headers.as_slice())?,
         body: filled_body(alloc, last, &init.body)?,
         client_referrer: init.client_referrer,
         referrer_policy: init.referrer_policy,
@@ -235,20 +191,19 @@ pub fn filled_init(
     })
 }
 
-/// What a script asks of a load, with the parts of the last result in the place of the placeholders in
-/// its URL. One that gets longer than 12,582,912 bytes, divided by the number of documents, at most by 16, is want of
-/// memory.
+/// What a script asks of a load, with the parts of the last result in the place of the placeholders in its URL, of which
+/// no more is handed on than of a fetch's.
 pub fn filled_load(
     alloc: Global,
-    documents: usize,
     last: Option<&Event>,
     init: &LoadInit,
 ) -> Result<LoadInit, OutOfMemory>
-    ensures { IfOk result (λ filled. filled ≡ spec.filled_load (lent_result last.entry) init.now) }
+    ensures { IfOk result
+        (λ filled. filled ≡ short.with_url_cut (spec.filled_load (lent_result last.entry) init.now)) }
 {
     Ok(LoadInit {
         kind: init.kind,
-        url: fill_url(alloc, documents, last, init.url.as_slice())?,
+        url: fill_first(alloc, MOST_URL, last, init.url.as_slice())?,
         crossorigin: init.crossorigin,
         nonce: init.nonce.copy(alloc)?,
         integrity: init.integrity.copy(alloc)?,

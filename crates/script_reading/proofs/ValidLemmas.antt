@@ -32,7 +32,7 @@ use Rattle.script_reading.specs.declared.format.Format.TheVariants.{First, Secon
 use Rattle.script_scenarios.specs.declared.document.Document.{Document}
 use Rattle.script_scenarios.specs.declared.scenario.Scenario.{Scenario}
 use Rattle.script_reading.specs.Formats.{root_keys, body_limit_of, document_keys, top_of, most_documents}
-use Rattle.script_scenarios.specs.Hosts.{is_host_name}
+use Rattle.value_requests.specs.HostNames.{is_host_name}
 use Rattle.script_scenarios.specs.Texts.{is_cookie_value}
 use Rattle.value_requests.specs.OriginTexts.{is_origin_text}
 use Rattle.script_scenarios.specs.Urls.{is_document_url}

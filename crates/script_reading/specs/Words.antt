@@ -5,7 +5,7 @@ pub use Rattle.link_routes.specs.declared.routes.Route.{Route}
 pub use Rattle.policy_csp_text.specs.Policies.{policies_of}
 pub use Rattle.policy_csp_text.specs.declared.policy.Policy.{Policy}
 pub use Rattle.script_commands.specs.Scripts.{Steps, fetch, no_steps, repeat, step, wait}
-pub use Rattle.script_scenarios.specs.Hosts.{is_host_name}
+pub use Rattle.value_requests.specs.HostNames.{is_host_name}
 pub use Rattle.script_scenarios.specs.Texts.{is_cookie_value}
 pub use Rattle.script_scenarios.specs.declared.document.Document.{Document}
 pub use Rattle.script_scenarios.specs.declared.hosts.KnownHost.{KnownHost}

@@ -63,3 +63,19 @@ module _ {State : Type 0} {Is : ℕ → Document → State → State → Transcr
   each-numbered number_of is_numbered (EachDocument.one_more {number = number} {new = new} {news = news} is more) =
       ap (λ (n : ℕ). n ∷ map number_of news) (is_numbered _ _ _ _ _ is)
       ∙ ap (λ (numbers : List ℕ). number ∷ numbers) (each-numbered number_of is_numbered more)
+
+-- one document more
+pub each-more : {State : Type 0} {Is : ℕ → Document → State → State → Transcript → Type 0} {number : ℕ}
+    {documents : List Document} {olds news : List State} {transcripts : List Transcript} {document : Document}
+    {old new : State} {transcript : Transcript} → EachDocument Is number documents olds news transcripts
+    → Is (number + length documents) document old new transcript
+    → EachDocument Is number (documents ++ document ∷ []) (olds ++ old ∷ []) (news ++ new ∷ [])
+    (transcripts ++ transcript ∷ [])
+each-more {Is = Is} {number = number} {document = document} {old = old} {new = new} {transcript = transcript}
+    EachDocument.none is =
+    let sum : number + 0 ≡ number = omega arith in
+    EachDocument.one_more (subst (λ (n : ℕ). Is n document old new transcript) sum is) EachDocument.none
+each-more {Is = Is} {number = number} {document = document} {old = old} {new = new} {transcript = transcript}
+    (EachDocument.one_more {documents = documents} one more) is =
+    let sum : number + length (document ∷ documents) ≡ number + 1 + length documents = omega arith in
+    EachDocument.one_more one (each-more more (subst (λ (n : ℕ). Is n document old new transcript) sum is))

@@ -1,4 +1,3 @@
-pub mod Hosts
 pub mod Servers
 pub mod Texts
 pub mod Urls

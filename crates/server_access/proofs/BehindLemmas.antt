@@ -1,8 +1,8 @@
 -- The request behind its preflight: what the two come to, by the row of the request's origin in the table.
 use Rattle.std.proofs.Common.{◌≡◌, ℕ, Bool, true, false, not, ◌||◌, List, [], map, Option, Some}
 use Rattle.std.proofs.Common.{None, codes, refl, ap, sym, subst, ◌∙◌, if◌then◌else◌}
-use Rattle.value_headers.specs.declared.extract.Rule.TheVariants.{Digits}
-use Rattle.value_headers.specs.Extract.{extracted}
+use Rattle.value_lists.specs.declared.extract.Rule.TheVariants.{Digits}
+use Rattle.value_lists.specs.Extract.{extracted}
 use Rattle.value_requests.specs.declared.error.NetError.{NetError}
 use Rattle.value_requests.specs.declared.error.NetError.TheVariants as error
 use Rattle.value_requests.specs.declared.hop.Head.{Head}

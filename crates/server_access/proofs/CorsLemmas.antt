@@ -10,10 +10,10 @@ use Rattle.value_lemmas.proofs.Bytes.{bytes_eq-self}
 use Rattle.value_text.specs.Mime.{is_text}
 use Rattle.value_text.specs.Tokens.{is_token}
 use Rattle.value_text.specs.Wildcards.{authorization, has_wildcard}
-use Rattle.value_headers.specs.declared.extract.Extracted.{Extracted}
-use Rattle.value_headers.specs.declared.extract.Rule.TheVariants.{Digits, Tokens}
+use Rattle.value_lists.specs.declared.extract.Extracted.{Extracted}
+use Rattle.value_lists.specs.declared.extract.Rule.TheVariants.{Digits, Tokens}
 use Rattle.value_headers.specs.declared.headers.Header.{Header}
-use Rattle.value_headers.specs.Extract.{extracted, extracted_of}
+use Rattle.value_lists.specs.Extract.{extracted, extracted_of}
 use Rattle.value_headers.specs.Headers.{contains, joined, values_of}
 use Rattle.value_requests.specs.declared.error.NetError.TheVariants as error
 use Rattle.value_requests.specs.declared.hop.Head.{Head}

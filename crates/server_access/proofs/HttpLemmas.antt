@@ -7,11 +7,11 @@ use mathlib.Core.Bool.{and-false, or-false}
 use Rattle.std.specs.Bool.{then_some}
 use Rattle.std.specs.Option.{option_or}
 use Rattle.policy_filter.proofs.LawLemmas.{not-script}
-use Rattle.value_headers.specs.declared.extract.Rule.TheVariants.{Single}
+use Rattle.value_lists.specs.declared.extract.Rule.TheVariants.{Single}
 use Rattle.value_headers.specs.declared.headers.Header.{Header}
-use Rattle.value_headers.specs.Extract.{extracted}
+use Rattle.value_lists.specs.Extract.{extracted}
 use Rattle.value_headers.specs.Headers.{joined, values_of}
-use Rattle.value_headers.specs.Split.{split}
+use Rattle.value_lists.specs.Split.{split}
 use Rattle.book_hosts.specs.declared.sts.Sts.{Sts}
 use Rattle.book_hosts.specs.Reading.{sts_in}
 use Rattle.value_mime.specs.Essence.{essence_of}

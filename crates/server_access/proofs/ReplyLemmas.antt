@@ -13,7 +13,7 @@ use Rattle.value_text.specs.Tokens.{is_tchar, is_token}
 use Rattle.value_text.specs.Wildcards.{has_wildcard, is_wildcard}
 use Rattle.value_headers.specs.declared.headers.Header.{Header}
 use Rattle.value_headers.specs.Headers.{joined, values_of}
-use Rattle.value_headers.specs.Split.{split}
+use Rattle.value_lists.specs.Split.{split}
 use Rattle.value_requests.specs.declared.hop.Head.{Head}
 use Rattle.value_requests.specs.declared.response.BodyEnd.{BodyEnd}
 use Rattle.value_requests.specs.declared.response.BodyEnd.TheVariants.{TooBig, Whole}

@@ -12,10 +12,10 @@ use Rattle.value_text.specs.Pieces.{with_front}
 use Rattle.value_text.specs.Tokens.{is_tchar, is_token}
 use Rattle.value_text.specs.Trims.{tab_or_space, trimmed, trimmed_end, trimmed_start}
 use Rattle.value_text.specs.Words.{is_filled}
-use Rattle.value_headers.specs.declared.extract.Extracted.{Extracted}
-use Rattle.value_headers.specs.declared.extract.Extracted.TheVariants.{Absent, Failure, Items}
-use Rattle.value_headers.specs.declared.extract.Rule.TheVariants.{Tokens}
-use Rattle.value_headers.specs.Extract.{between_commas, extracted_of, token_list}
+use Rattle.value_lists.specs.declared.extract.Extracted.{Extracted}
+use Rattle.value_lists.specs.declared.extract.Extracted.TheVariants.{Absent, Failure, Items}
+use Rattle.value_lists.specs.declared.extract.Rule.TheVariants.{Tokens}
+use Rattle.value_lists.specs.Extract.{between_commas, extracted_of, token_list}
 
 -- ---- bytes
 

@@ -10,7 +10,7 @@ use Rattle.std.specs.Str.{str_eq_ignore_ascii_case}
 use Rattle.value_headers.proofs.ValueLemmas.{no-values}
 use Rattle.value_lemmas.proofs.Bytes.{eq_ignore_case-alike}
 use Rattle.value_text.specs.Tokens.{is_token}
-use Rattle.value_headers.proofs.ExtractLemmas.{named-some}
+use Rattle.value_lists.proofs.ExtractLemmas.{named-some}
 use Rattle.value_headers.proofs.SpellingLemmas.{spelling-folds}
 use Rattle.value_headers.specs.declared.headers.Header.{Header}
 use Rattle.value_headers.specs.Headers.{all_appended, appended, contains, is_named, spelling, values_of}

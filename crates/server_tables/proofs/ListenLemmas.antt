@@ -4,7 +4,7 @@ use Rattle.std.proofs.Common.{List, ◌++◌, length, length-append, take, drop,
 use Rattle.std.proofs.Common.{true≢false, get_or, nat_le, is_some, inl, inr}
 use Rattle.std.proofs.Math.Seq.{take-append_seam}
 use Rattle.std.proofs.lemmas.Bool.{leb-false, leb-true}
-use Rattle.std.proofs.lemmas.List.{length-take, take-append-drop, take-append-le, take_min}
+use Rattle.std.proofs.lemmas.List.{length-take, take-append-drop, take-append-le, take_all, take_min}
 use Rattle.std.proofs.lemmas.List.Folds.{list_any_more}
 use Rattle.std.specs.List.{list_any}
 use Rattle.link_traits.proofs.SourceLemmas.{gave-again}
@@ -12,13 +12,13 @@ use Rattle.httparse.specs.Grammar.{print_request, RequestHead}
 use Rattle.link_traits.specs.Counts.{Rose}
 use Rattle.link_traits.specs.Sinks.{SinkTold}
 use Rattle.link_traits.specs.Sources.{Gave, SourceTold}
-use Rattle.link_http1.proofs.RequestLemmas.{request-shortest}
+use Rattle.link_http1.proofs.RequestLemmas.{no-request, request-shortest}
 use Rattle.link_http1.specs.Blocks.{is_block, is_line_byte}
 use Rattle.link_http1.specs.RequestHeads.{BeginsRequest, IsRead}
 use Rattle.link_http1.specs.declared.request_head.Asked.{Asked}
 use Rattle.server_tables.specs.Private.Coming.{Gives, HasBlock, HasCome, HasEnded, HasFailed, HasHeard, IsOver}
 use Rattle.server_tables.specs.Private.Coming.{IsSearched}
-use Rattle.server_tables.specs.Serving.{most_read, peer_told, PeerTold, WasUnheard}
+use Rattle.server_tables.specs.Serving.{AskedOn, most_at_once, most_read, peer_told, PeerTold, WasUnheard}
 use Rattle.server_tables.specs.declared.listen.Search.{Search}
 
 -- ---- what a peer gave
@@ -84,6 +84,33 @@ searched-on old new bytes is less one begun quiet = record {
         let same : n ≡ new.searched = omega (arith, leb-false n old.searched at, few, one) in
         ap (λ (m : ℕ). is_block (take m bytes)) same ∙ quiet
 
+-- where all bytes were searched, they have no request head
+pub unread : (search : Search) (bytes : List ℕ) → IsSearched search bytes → search.searched ≡ length bytes
+    → IsRead bytes None
+unread search bytes is all = no-request bytes (λ n. by n (nat_le n search.searched) refl)
+  where
+    by : (n : ℕ) (b : Bool) → nat_le n search.searched ≡ b → is_block (take n bytes) ≡ false
+    by n true at = is.none n (leb-true n search.searched at)
+    by n false at =
+        ap is_block (take_all n bytes (omega (arith, leb-false n search.searched at, all))
+        ∙ sym (take_all search.searched bytes (omega (arith, all))))
+        ∙ is.none search.searched (omega arith)
+
+-- so a piece more has to be asked for
+pub asked-more : (bytes piece : List ℕ) → IsRead bytes None → length piece ≤ most_at_once → AskedOn (bytes ++ piece)
+asked-more bytes piece none few = record {
+  earlier = length bytes;
+  few = omega (arith, length-append bytes piece, few);
+  none = subst (λ (l : List ℕ). IsRead l None) (sym (take-append_seam bytes piece)) none;
+}
+
+pub asked-all : (bytes : List ℕ) → IsRead bytes None → AskedOn bytes
+asked-all bytes none = record {
+  earlier = length bytes;
+  few = omega arith;
+  none = subst (λ (l : List ℕ). IsRead l None) (sym (take_all (length bytes) bytes (omega arith))) none;
+}
+
 -- a block ended in the bytes that decide
 module _ (bytes rest : List ℕ) (n : ℕ) (ends : is_block (take n bytes) ≡ true) (printed : RequestHead)
     (begins : BeginsRequest (bytes ++ rest) printed) where
@@ -127,15 +154,16 @@ never-comes bytes rest block none = λ printed begins.
 
 -- ---- a request
 
--- the source failed after these bytes
-pub unheard-after : (a b c : PeerTold) (bytes : List ℕ) (found : Bool) (n : ℕ) → HasCome a b bytes found
-    → n ≡ length bytes → HasFailed b c n → WasUnheard a c
-unheard-after a b c bytes found n came same failed =
+-- the source failed after these bytes, which have a block that is no head
+pub unheard-after : (a b c : PeerTold) (bytes : List ℕ) (found : Bool) (n : ℕ) → HasCome a b bytes found → found ≡ true
+    → IsRead bytes None → n ≡ length bytes → HasFailed b c n → WasUnheard a c
+unheard-after a b c bytes found n came is none same failed =
     let gives = gives-both a b c bytes failed.rest came.gives failed.gives in
     record {
       bytes = bytes ++ failed.rest;
       gave = gives.gave;
       few = omega (arith, length-append bytes failed.rest, failed.few, same);
+      none = never-comes bytes failed.rest (came.block is) none;
       cause = subst (λ (count : ℕ). Rose count c.source.faults) came.quiet failed.cause;
       sink = gives.sink;
     }
@@ -150,14 +178,24 @@ pub heard-now : (a b : PeerTold) (bytes : List ℕ) (found : Bool) (asked : Opti
     → IsRead bytes asked → (found ≡ true → is_some asked ≡ true) → HasHeard a b asked
 heard-now a b bytes found (Some asked) came read some = record {
   bytes = bytes;
-  heard = record { gave = came.gives.gave; few = came.few; suffice = inl (asked, read) };
+  heard = record {
+    gave = came.gives.gave;
+    few = came.few;
+    suffice = inl (asked, read);
+    asked_on = came.asked_on;
+  };
   read = read;
   sink = came.gives.sink;
 }
 heard-now a b bytes true None came read some = absurd (true≢false (sym (some refl)))
 heard-now a b bytes false None came read some = record {
   bytes = bytes;
-  heard = record { gave = came.gives.gave; few = came.few; suffice = inr (came.over refl) };
+  heard = record {
+    gave = came.gives.gave;
+    few = came.few;
+    suffice = inr (came.over refl);
+    asked_on = came.asked_on;
+  };
   read = read;
   sink = came.gives.sink;
 }
@@ -175,6 +213,7 @@ heard-later a b c bytes found n came is none same ended =
         gave = gives.gave;
         few = omega (arith, all, ended.few);
         suffice = inr (subst (IsOver c) all ended.over);
+        asked_on = asked-all (bytes ++ ended.rest) (never-comes bytes ended.rest (came.block is) none);
       };
       read = never-comes bytes ended.rest (came.block is) none;
       sink = gives.sink;

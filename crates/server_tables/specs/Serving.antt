@@ -1,5 +1,5 @@
 -- What serving one peer comes to: what was read of it, and what was written to it.
-use Rattle.std.specs.Prelude.{◌≡◌, ℕ, ◌≤◌, ◌⊎◌, List, length, Option, Some}
+use Rattle.std.specs.Prelude.{◌≡◌, ℕ, ◌+◌, ◌≤◌, ◌⊎◌, List, length, take, Option, Some, None}
 use Rattle.value_text.specs.Texts.{Text}
 use Rattle.link_traits.specs.Counts.{Rose}
 use Rattle.link_traits.specs.Sinks.{SinkTold, Took, TookPart}
@@ -31,11 +31,22 @@ Failed old new = Rose old.faults new.faults ⊎ Rose old.zeros new.zeros
 abbrev pub Suffice : Option Text → Text → Type 0
 Suffice left bytes = ((asked : Asked) × IsRead bytes (Some asked)) ⊎ IsAtEnd left ⊎ (length bytes ≡ most_read)
 
--- these bytes were read, and they suffice
+-- the most bytes that are asked for at once
+abbrev pub most_at_once : ℕ
+most_at_once = 4096
+
+-- No more was asked for than had to be: before the last piece, of at most 4,096 bytes, no request head had come.
+pub record AskedOn (bytes : Text) : Type 0 where
+  pub earlier : ℕ
+  pub few : length bytes ≤ earlier + most_at_once
+  pub none : IsRead (take earlier bytes) None
+
+-- these bytes were read, they suffice, and no more was asked for than had to be
 pub record Heard (old new : SourceTold) (bytes : Text) : Type 0 where
   pub gave : Gave old.left new.left bytes
   pub few : length bytes ≤ most_read
   pub suffice : Suffice new.left bytes
+  pub asked_on : AskedOn bytes
 
 -- the reply to the bytes read was written whole
 pub record Answered (table : List Row) (old new : PeerTold) (status : ℕ) : Type 0 where
@@ -55,11 +66,12 @@ pub record WasCut (table : List Row) (old new : PeerTold) : Type 0 where
   pub took : TookPart old.sink.taken new.sink.taken answer
   pub cause : Failed old.sink new.sink
 
--- the source failed, and nothing was written
+-- the source failed before a request head had come, and nothing was written
 pub record WasUnheard (old new : PeerTold) : Type 0 where
   pub bytes : Text
   pub gave : Gave old.source.left new.source.left bytes
   pub few : length bytes ≤ most_read
+  pub none : IsRead bytes None
   pub cause : Rose old.source.faults new.source.faults
   pub sink : new.sink ≡ old.sink
 

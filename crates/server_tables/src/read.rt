@@ -157,7 +157,7 @@ pub fn read_table(alloc: Global, text: &[u8]) -> Result<Result<AllowTable, BadLi
         let Some(row) = row_in(alloc, rest.split_at(end).0)? else {
             return Ok(Err(BadLine { line }));
         };
-        table = table.with(alloc, row)?;
+        table.add(alloc, row)?;
         rest = rest.split_at(end + 1).1;
         line += 1;
     }

@@ -1,5 +1,5 @@
 // Allow tables, and how a row is found by its origin.
-ghost use Rattle.std.specs.Prelude.{◌≡◌, ◌∷◌, ◌++◌, [], IfOk, option_copied};
+ghost use Rattle.std.specs.Prelude.{◌≡◌, ◌∷◌, ◌++◌, [], OnErr, OnOk, option_copied};
 ghost use Rattle.server_tables.specs.Tables.{row_of};
 
 use std::alloc::Global;
@@ -70,19 +70,17 @@ impl AllowTable {
         }
     }
 
-    /// The table with one row more, at its end. After `OutOfMemory` the table is gone.
-    pub fn with(self, alloc: Global, row: Row) -> Result<AllowTable, OutOfMemory>
-        ensures { IfOk result (λ table. table ≡ self ++ row ∷ []) }
+    /// Adds a row at the end. After `OutOfMemory` the table is as it was.
+    pub fn add(&mut self, alloc: Global, row: Row) -> Result<(), OutOfMemory>
+        ensures ok { OnOk result (self.new ≡ self.old ++ row ∷ []) }
+        ensures err { OnErr result (self.new ≡ self.old) }
     {
-        let AllowTable {
-            mut rows,
-            mut places,
-        } = self;
-        if places.get(row.origin.as_slice()).is_none() {
+        self.rows.reserve(1)?;
+        if self.places.get(row.origin.as_slice()).is_none() {
             let origin = Vec::from_slice(alloc, row.origin.as_slice())?;
-            places.insert(origin, rows.as_slice().len())?;
+            self.places.insert(origin, self.rows.as_slice().len())?;
         }
-        rows.push(row)?;
-        Ok(AllowTable { rows, places })
+        self.rows.push_reserved(row);
+        Ok(())
     }
 }

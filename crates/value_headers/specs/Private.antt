@@ -1,6 +1,4 @@
--- What the crate's private contracts alone cite: how headers are found, joined, packed and split.
-pub mod Finding
+-- What the crate's private contracts alone cite: how headers are found, joined and packed.
 pub mod Joining
 pub mod Packs
 pub mod Places
-pub mod Splitting

@@ -11,7 +11,7 @@ use Rattle.value_text.specs.Trims.{tab_or_space, trimmed, trimmed_start}
 use Rattle.value_headers.specs.Headers.{after_comma, is_named, values_of}
 use Rattle.value_headers.specs.declared.headers.Header.{Header}
 use Rattle.value_text.specs.Pieces.{with_front}
-use Rattle.value_headers.specs.Split.{in_quoted_string, pieces, split}
+use Rattle.value_lists.specs.Split.{in_quoted_string, pieces, split}
 use Rattle.value_mime.specs.Nosniff.{begins_with_nosniff, nosniff}
 
 -- the text before the first comma

@@ -3,7 +3,7 @@ use Rattle.std.specs.Prelude.{◌-◌, List, [], length, slice_get, codes, Optio
 use Rattle.std.specs.List.{filter_map}
 use Rattle.value_text.specs.Texts.{Text}
 use Rattle.value_text.specs.Mime.{essence_of_value, has_essence}
-use Rattle.value_headers.specs.Split.{split_values}
+use Rattle.value_lists.specs.Split.{split_values}
 use Rattle.value_headers.specs.declared.headers.Header.{Header}
 
 -- the essence of a value that is a MIME type other than `*/*`

@@ -2,7 +2,7 @@
 use Rattle.std.specs.Prelude.{Bool, false, List, [], ◌∷◌, Option, Some, None, codes}
 use Rattle.std.specs.Str.{str_eq_ignore_ascii_case}
 use Rattle.value_text.specs.Texts.{Text}
-use Rattle.value_headers.specs.Split.{split_values}
+use Rattle.value_lists.specs.Split.{split_values}
 use Rattle.value_headers.specs.declared.headers.Header.{Header}
 
 -- there is a first value, and it is `nosniff`, ASCII case aside

@@ -5,6 +5,7 @@ ghost use Rattle.value_mime.specs.Essence as spec;
 
 use std::alloc::Global;
 use value_headers::HeaderList;
+use value_lists::split_values;
 use value_text::{Bytes, BytesList, OutOfMemory, essence_is, in_lower_case, written_essence};
 
 // The essence of a value, as it is written, where it is a MIME type other than `*/*`.
@@ -36,7 +37,7 @@ fn last_essence(values: &BytesList) -> Option<&[u8]>
 pub fn essence_of(alloc: Global, headers: &HeaderList) -> Result<Option<Bytes>, OutOfMemory>
     ensures { IfOk result (λ essence. essence ≡ spec.essence_of headers.now) }
 {
-    let Some(values) = headers.split_values(alloc, b"Content-Type")? else {
+    let Some(values) = split_values(alloc, headers, b"Content-Type")? else {
         return Ok(None);
     };
     match last_essence(&values) {

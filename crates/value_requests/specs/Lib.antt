@@ -1,5 +1,6 @@
 pub mod Clients
 pub mod Errors
+pub mod HostNames
 pub mod Lines
 pub mod Methods
 pub mod Modes

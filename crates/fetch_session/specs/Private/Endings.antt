@@ -1,9 +1,9 @@
 -- What a reader comes to where the answer ends, or the connection fails.
+use Rattle.std.specs.Prelude.{◌≡◌}
 use Rattle.fetch_acts.specs.declared.act.Input.{Input}
 use Rattle.fetch_acts.specs.declared.act.Input.TheVariants.{BodyIs, Fault, HeadBad}
 use Rattle.link_http1.specs.Bodies.{body_end}
-use Rattle.value_requests.specs.declared.response.BodyEnd.TheVariants as end
-use Rattle.fetch_session.specs.Feeding.{count_of}
+use Rattle.fetch_session.specs.Feeding.{FailsReading}
 use Rattle.fetch_session.specs.declared.reading.Reader.{Reader}
 use Rattle.fetch_session.specs.declared.reading.Reader.TheVariants.{Body}
 
@@ -13,7 +13,6 @@ end_of_reader (Body reading) = BodyIs (body_end reading.framing reading.limit re
 end_of_reader _ = HeadBad
 
 -- where the connection fails
-abbrev pub fault_of_reader : Reader → Input
-fault_of_reader (Body reading) =
-    BodyIs (end.Fault (count_of (body_end reading.framing reading.limit reading.bytes)))
-fault_of_reader _ = Fault
+abbrev pub FailsReader : Reader → Input → Type 0
+FailsReader (Body reading) input = FailsReading reading.framing reading.limit reading.bytes input
+FailsReader _ input = input ≡ Fault

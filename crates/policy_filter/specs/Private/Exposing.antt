@@ -1,10 +1,10 @@
 -- What a header list exposes, with one word for all of its names.
 use Rattle.std.specs.Prelude.{Bool, not, ◌&&◌, List, [], codes, if◌then◌else◌}
-use Rattle.value_headers.specs.declared.extract.Extracted.{Extracted}
-use Rattle.value_headers.specs.declared.extract.Extracted.TheVariants.{Items}
-use Rattle.value_headers.specs.declared.extract.Rule.TheVariants.{Tokens}
+use Rattle.value_lists.specs.declared.extract.Extracted.{Extracted}
+use Rattle.value_lists.specs.declared.extract.Extracted.TheVariants.{Items}
+use Rattle.value_lists.specs.declared.extract.Rule.TheVariants.{Tokens}
 use Rattle.value_headers.specs.declared.headers.Header.{Header}
-use Rattle.value_headers.specs.Extract.{extracted}
+use Rattle.value_lists.specs.Extract.{extracted}
 use Rattle.value_requests.specs.declared.request.Request.{Request}
 use Rattle.value_requests.specs.Modes.{is_include}
 use Rattle.policy_filter.specs.declared.exposed.Exposure.{Exposure}

@@ -1,8 +1,9 @@
 -- The reports of documents, delivered one document after another (private contracts).
-use Rattle.std.specs.Prelude.{◌≡◌, ℕ, ◌+◌, ◌<◌, ◌^◌, List, [], ◌∷◌, ◌++◌, length, map, slice_get, Some}
+use Rattle.std.specs.Prelude.{◌≡◌, ℕ, ◌<◌, ◌^◌, List, [], ◌∷◌, ◌++◌, length, map, slice_get, Some}
 use Rattle.book_calls.specs.declared.book.Book.{Book}
 use Rattle.book_calls.specs.declared.entry.Entry.{Entry}
-use Rattle.book_calls.specs.Entries.{Legal, book_after, entry}
+use Rattle.book_calls.specs.Entries.{HasTurnsFrom, Legal, book_after}
+use Rattle.book_calls.specs.Solo.{AreOf}
 use Rattle.play_definitions.specs.Plays.{IsPlayOver, RunsOver, opening_book}
 use Rattle.link_traits.specs.Links.{LinkTold}
 use Rattle.fetch_wire.specs.Exchanges.{Answering}
@@ -20,35 +21,34 @@ use Rattle.book_turns.specs.declared.pass.TurnPass.{TurnPass}
 abbrev pub CanReport : Scenario → Transcript → Type 0
 CanReport scenario transcript = (transcript.document < length scenario.documents) × (transcript.clock < 2 ^ 48)
 
--- the entries as those of this document, with the turns from this one on
-abbrev pub numbered : ℕ → ℕ → List Entry → List Entry
-numbered document turn [] = []
-numbered document turn (e ∷ es) = entry turn document e.op e.reply ∷ numbered document (turn + 1) es
-
 -- The reports of a document, which its transcript tells, were delivered over its link and over a book that they had for
--- themselves: these are their entries.
+-- themselves. The history has grown by their entries, which are the document's and legal from that book, and leave the
+-- last one; its entry i has turn i.
 pub record IsDelivered {L State : Type 0} (by : Answering State) (told : L → LinkTold State) (scenario : Scenario)
-    (transcript : Transcript) (opening : Book) (link : L) (delivered : Delivered) (entries : List Entry)
-    : Type 0 where
+    (transcript : Transcript) (book : Book) (history : List Entry) (link : L) (delivered : Delivered) (last : Book)
+    (whole : List Entry) : Type 0 where
   pub number_is : delivered.document ≡ transcript.document
-  pub legal : Legal opening entries
+  pub entries : List Entry
+  pub whole_is : whole ≡ history ++ entries
+  pub last_is : last ≡ book_after book entries
+  pub legal : Legal book entries
+  pub of_document : AreOf transcript.document entries
+  pub turns : HasTurnsFrom 0 whole
   -- the link as they left it
   pub left : L
   pub came : (one : Document) → slice_get scenario.documents transcript.document ≡ Some one
-      → RunsOver by scenario.body_limit 0 (way_of told link) (way_of told left) entries
+      → RunsOver by scenario.body_limit transcript.document (way_of told link) (way_of told left) entries
       (reporting scenario.cookies one transcript.clock transcript.events) delivered.events
       (ending_of delivered.ending) transcript.clock
 
--- Those of each, in order: the book goes from document to document, and the history grows by the entries of each, with
--- its number and the turns that follow.
-pub data EachDelivered {L : Type 0} (Is : Transcript → Book → L → Delivered → List Entry → Type 0)
+-- Those of each, in order: book and history go from document to document.
+pub data EachDelivered {L : Type 0} (Is : Transcript → Book → List Entry → L → Delivered → Book → List Entry → Type 0)
     : Book → List Entry → List Transcript → List L → List Delivered → Book → List Entry → Type 0 where
   none : {book : Book} {history : List Entry} → EachDelivered Is book history [] [] [] book history
-  one_more : {book last : Book} {history entries whole : List Entry} {transcript : Transcript} {link : L}
+  one_more : {book after last : Book} {history longer whole : List Entry} {transcript : Transcript} {link : L}
       {delivered : Delivered} {transcripts : List Transcript} {links : List L} {delivereds : List Delivered}
-      → Is transcript book link delivered entries
-      → EachDelivered Is (book_after book entries) (history ++ numbered transcript.document (length history) entries)
-      transcripts links delivereds last whole
+      → Is transcript book history link delivered after longer
+      → EachDelivered Is after longer transcripts links delivereds last whole
       → EachDelivered Is book history (transcript ∷ transcripts) (link ∷ links) (delivered ∷ delivereds) last whole
 
 -- those of the documents of these transcripts

@@ -7,14 +7,10 @@ use Rattle.link_traits.specs.Sources.{Gave, IsAtEnd}
 use Rattle.link_http1.specs.Blocks.{is_block, is_line_byte}
 use Rattle.link_http1.specs.RequestHeads.{IsRead}
 use Rattle.link_http1.specs.declared.request_head.Asked.{Asked}
-use Rattle.server_tables.specs.Serving.{Heard, IsServing, most_read, PeerTold}
+use Rattle.server_tables.specs.Serving.{AskedOn, Heard, IsServing, most_read, PeerTold}
 use Rattle.server_tables.specs.declared.listen.Search.{Search}
 use Rattle.server_tables.specs.declared.serving.Served.{Served}
 use Rattle.server_tables.specs.declared.table.Row.{Row}
-
--- no block ends in the bytes
-abbrev pub HasNoBlock : Text → Type 0
-HasNoBlock bytes = (n : ℕ) → is_block (take n bytes) ≡ false
 
 -- a block ends in the bytes
 abbrev pub HasBlock : Text → Type 0
@@ -42,6 +38,7 @@ pub record HasCome (old new : PeerTold) (bytes : Text) (found : Bool) : Type 0 w
   pub quiet : new.source.faults ≡ old.source.faults
   pub block : found ≡ true → HasBlock bytes
   pub over : found ≡ false → IsOver new (length bytes)
+  pub asked_on : AskedOn bytes
 
 -- after so many bytes more came, and there is room for so many
 pub record HasComeOn (old new : PeerTold) (before room : ℕ) : Type 0 where

@@ -11,12 +11,12 @@ use Rattle.audit_verdict.proofs.VerdictLemmas.{held-in-range, illegal-verdict, s
 use Rattle.audit_verdict.proofs.cases.audit_history.Goals as goal
 
 pub first_illegal-requires : goal.first_illegal-requires
-first_illegal-requires g c =
+first_illegal-requires c =
     subst (All (λ (e : Entry). InRange e.op)) (sym c.as_slice-2.ensures)
     (held-in-range c.args.play.now c.args.history.now c.requires.holds)
 
 pub returns-in-Some : goal.returns-in-Some
-returns-in-Some g c =
+returns-in-Some c =
     let scenario = c.args.scenario.now in
     let history = c.args.history.now in
     let book = c.in_ok-book.book in
@@ -28,7 +28,7 @@ returns-in-Some g c =
     (subst (IsJudged book c.as_slice-2.result.now) c.in-Some.is c.in_ok-index.ensures)))
 
 pub returns-in-Some-first_stranger : goal.returns-in-Some-first_stranger
-returns-in-Some-first_stranger g c =
+returns-in-Some-first_stranger c =
     let scenario = c.args.scenario.now in
     let history = c.args.history.now in
     let book = c.in_ok-book.book in

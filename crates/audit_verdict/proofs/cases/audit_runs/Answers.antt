@@ -8,14 +8,14 @@ use Rattle.audit_verdict.proofs.VerdictLemmas.{calls-verdict, play-verdict, text
 use Rattle.audit_verdict.proofs.cases.audit_runs.Goals as goal
 
 pub returns-in-Stops : goal.returns-in-Stops
-returns-in-Stops g c =
+returns-in-Stops c =
     calls-verdict c.args.scenario.now c.args.play.now c.args.history.now c.requires.holds c.requires.given
     c.requires.named c.in-Stops.number
     (subst (λ (h : List Entry). StopsAt c.args.scenario.now h c.in-Stops.number) c.as_slice.ensures
     (subst (AreRuns c.args.scenario.now c.as_slice.result.now) c.in-Stops.is c.in_ok-number.ensures))
 
 pub returns-in-None : goal.returns-in-None
-returns-in-None g c =
+returns-in-None c =
     let scenario = c.args.scenario.now in
     let history = c.args.history.now in
     let transcripts = c.in-Came.transcripts in
@@ -25,7 +25,7 @@ returns-in-None g c =
     (subst (AreCompared (play_text transcripts history) c.args.play.now) c.in-None.is c.in_ok-differs_from.ensures)
 
 pub returns : goal.returns
-returns g c =
+returns c =
     let scenario = c.args.scenario.now in
     let history = c.args.history.now in
     let transcripts = c.in-Came.transcripts in

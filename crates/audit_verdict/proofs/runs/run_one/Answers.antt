@@ -3,11 +3,12 @@ use Rattle.play_isolation.specs.Laws.{CallsFollow}
 use Rattle.script_events.specs.declared.events.Ending.TheVariants.{Memory}
 use Rattle.script_scenarios.specs.declared.servers.Server.{Server}
 use Rattle.audit_replay.specs.Tapes.{Tape}
-use Rattle.audit_verdict.proofs.TapeRunLemmas.{came-to, document-at, unused-run, used-run}
+use Rattle.audit_verdict.proofs.TapeRunLemmas.{came-to, unused-run, used-run}
+use Rattle.play_seats.proofs.ServedLemmas.{document-at}
 use Rattle.audit_verdict.proofs.runs.run_one.Goals as goal
 
 pub returns-then-is_used_up : goal.returns-then-is_used_up
-returns-then-is_used_up g c =
+returns-then-is_used_up c =
     let scenario = c.args.scenario.now in
     let number = c.args.number in
     let history = c.args.history.now in
@@ -26,7 +27,7 @@ returns-then-is_used_up g c =
     (c.drive-transcript.ensures.came one.0 one.1))
 
 pub returns : goal.returns
-returns g c =
+returns c =
     let scenario = c.args.scenario.now in
     let number = c.args.number in
     let history = c.args.history.now in

@@ -3,7 +3,7 @@ use Rattle.play_servers.specs.Sim.{SimState, fault_count, not_lent}
 use Rattle.play_seats.specs.Makers.{Maker}
 use Rattle.play_whole.specs.Links.{IsPlayOverLinks}
 use Rattle.play_definitions.specs.Plays.{IsPlay}
-use Rattle.play_whole.specs.declared.play.Played.{Played}
+use Rattle.play_definitions.specs.declared.played.Played.{Played}
 use Rattle.play_seats.proofs.ServerLemmas.{by_bytes, sim_told}
 use Rattle.play_seats.proofs.ListLemmas.{if-ok-map}
 use Rattle.play_whole.proofs.StandingLemmas.{scripted-play}

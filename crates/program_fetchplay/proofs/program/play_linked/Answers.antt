@@ -48,8 +48,8 @@ returns-in-Ok-play_over g c =
       base = c.base_of-base.result;
       base_is = c.base_of-base.ensures.base;
       over = over;
-      alone = (c.law_isolated.ensures by scenario c.base_of-base.result (map way over.made) (map way over.back)
-          played.transcripts played.history over.play).alone;
+      alone = c.law_isolated.ensures by scenario c.base_of-base.result (map way over.made) (map way over.back)
+          played.transcripts played.history over.play;
     })
     c.write_text.ensures)))
 

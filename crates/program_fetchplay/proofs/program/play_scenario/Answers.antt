@@ -29,6 +29,9 @@ returns-in-Ok-play_scripted g c =
     scenario (written_status c.write_text.result) c.in-Ok.ensures.read
     (play-written IsScripted scenario played.transcripts played.history (g.K.Sink.takes c.args.output.now)
     (g.K.Sink.takes c.write_text.new.output) c.write_text.result
-    (c.law_isolated.ensures by_rules scenario scenario.now (ways_to_servers scenario) (ways_to_servers scenario)
-    played.transcripts played.history c.in-Ok-play_scripted.ensures.played)
+    (record {
+      play = c.in-Ok-play_scripted.ensures.played;
+      alone = c.law_isolated.ensures by_rules scenario scenario.now (ways_to_servers scenario)
+          (ways_to_servers scenario) played.transcripts played.history c.in-Ok-play_scripted.ensures.played;
+    })
     c.write_text.ensures))

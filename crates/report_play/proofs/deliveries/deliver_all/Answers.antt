@@ -8,7 +8,8 @@ pub loop-link-init : goal.loop-link-init
 loop-link-init g c =
     let gives = c.into_iter-link-iterator.ensures.into_iter_gives in
     record {
-      delivered = delivered-none c.args.book c.args.history.now c.new-reports.result c.new-reports.ensures;
+      delivered = delivered-none c.args.book c.args.history c.new-reports.result c.new-reports.ensures;
+      turns = c.requires.turns;
       number = refl;
       left = omega (arith, gives.1);
       all = gives.0;
@@ -23,15 +24,16 @@ pub loop-link-preserved : goal.loop-link-preserved
 loop-link-preserved g c =
     let i = c.loop-link.invariant in
     let one = c.in_ok-one.one in
+    let is = c.in_ok-one.ensures in
     let yielded = c.loop-link.yielded in
     let link = c.in-Some.link in
     let steps = c.in-Some.ensures.steps in
     record {
       delivered = rw (c.in_ok-push.ensures.ok)
-          (delivered-more c.args.book c.loop-link.book one.book c.args.history.now c.loop-link.history
-          c.append_entries.new.history c.args.transcripts.now c.loop-link.number yielded c.loop-link.reports
-          c.at-transcript.result.now link one.delivered one.entries c.at-transcript.ensures i.delivered
-          c.in_ok-one.ensures.delivered c.in_ok-one.ensures.book c.in_ok-append_entries.ensures);
+          (delivered-more c.args.book c.loop-link.book one.book c.args.history c.loop-link.history one.history
+          c.args.transcripts.now c.loop-link.number yielded c.loop-link.reports c.at-transcript.result.now link
+          one.delivered c.at-transcript.ensures i.delivered is);
+      turns = is.turns;
       number = omega (arith, i.number, length-append yielded (link ∷ []));
       left = omega (arith, i.left, steps.1, length-append yielded (link ∷ []));
       all = append_assoc yielded (link ∷ []) (into_iter_items c.next.new.self)
@@ -43,7 +45,7 @@ returns g c =
     let i = c.loop-link.invariant in
     let it = c.loop-link.link-iterator in (
       c.loop-link.book,
-      delivered-all c.args.book c.loop-link.book c.args.history.now c.loop-link.history c.args.transcripts.now
+      delivered-all c.args.book c.loop-link.book c.args.history c.loop-link.history c.args.transcripts.now
           c.loop-link.number c.args.links.items c.loop-link.yielded (into_iter_items it) c.loop-link.reports
           i.delivered i.all (sym it.rest.ok.0 ∙ c.in-None.ensures.steps.0) i.number
           (omega (arith, c.requires.many, c.args.links.ok.0)),

@@ -39,7 +39,7 @@ close-book-requires g c =
     (documents-in back count c.play_all.ensures.documents))
 
 pub deliver_all-requires-clause-report : goal.deliver_all-requires-clause-report
-deliver_all-requires-clause-report g c κs within =
+deliver_all-requires-clause-report g c =
     let scenario = c.args.scenario.now in
     can-report (over_link g.L.Link.serves) scenario c.in_ok-transcripts.ensures.played
     (c.has_text.ensures.0 c.if-not-has_text.false) c.requires.valid.now
@@ -49,7 +49,7 @@ deliver_all-requires-clause-report g c κs within =
     zero_before n = omega arith
 
 pub deliver_all-requires-clause-many : goal.deliver_all-requires-clause-many
-deliver_all-requires-clause-many g c κs within =
+deliver_all-requires-clause-many g c =
     let back = c.play_all.new.seats.items in
     omega (
       arith,
@@ -59,6 +59,23 @@ deliver_all-requires-clause-many g c κs within =
       as-many (λ s. s.pass.document) back (length c.args.scenario.now.documents) c.play_all.ensures.documents,
       many-transcripts c.in_ok-transcripts.ensures.played,
     )
+
+pub deliver_all-requires-clause-turns : goal.deliver_all-requires-clause-turns
+deliver_all-requires-clause-turns g c =
+    let id = c.args.book.table.shared.table_id in
+    let scenario = c.args.scenario.now in
+    let ready = c.requires.ready in
+    let made = c.args.seats.items in
+    let back = c.play_all.new.seats.items in
+    let book = c.close-book.result.book in
+    let scripts = c.close-book.result.history in
+    let closed = subst (λ (l : List TurnPass). IsOneHistory l book scripts)
+    (c.in_ok-links.ensures.passes ∙ ap (λ (l : List TurnPass). l ++ passes_in back) ready.alone) c.close-book.ensures
+    in
+    (closed-play (over_link g.L.Link.serves) g.L.Link.told scenario scenario.now id ready.first made back book scripts
+    ready.made (documents-in back (length scenario.documents) c.play_all.ensures.documents) closed
+    c.in_ok-transcripts.transcripts c.in_ok-transcripts.ensures.played
+    (c.has_text.ensures.0 c.if-not-has_text.false)).turns
 
 pub returns : goal.returns
 returns g c =
@@ -76,6 +93,7 @@ returns g c =
     let closed = subst (λ (l : List TurnPass). IsOneHistory l book scripts)
     (c.in_ok-links.ensures.passes ∙ ap (λ (l : List TurnPass). l ++ passes_in back) ready.alone) c.close-book.ensures
     in
+    let all = c.in_ok-all.all in
     record {
       scripts = scripts;
       links = c.in_ok-links.links.items;
@@ -84,7 +102,7 @@ returns g c =
           (documents-in back count c.play_all.ensures.documents) closed transcripts
           c.in_ok-transcripts.ensures.played (c.has_text.ensures.0 c.if-not-has_text.false));
       delivered = subst (λ (b : Book). AreDelivered by told scenario b scripts transcripts
-          c.in_ok-links.links.items c.in_ok-reports.reports c.deliver_all.new.history)
+          c.in_ok-links.links.items all.reports all.history)
           (closed-book id (opening_book scenario) count ready.first made back book scripts ready.made closed)
-          c.in_ok-reports.ensures;
+          c.in_ok-all.ensures;
     }

@@ -43,7 +43,11 @@ returns-then-is_none-clause-stopped g c =
           subst (λ r. IfErr r (Stopped first last)) (sym w.result-is)
           (λ _. unheard-after first mid last c.read_block.new.bytes.items c.in_ok-found.found
           (length c.as_slice-then-is_none.result.now)
-          c.in_ok-found.ensures.came (ap length c.as_slice-then-is_none.ensures.value)
+          c.in_ok-found.ensures.came c.if-found.true
+          (none-read c.read_block.new.bytes.items c.in-Ok-read_request.asked
+          (subst (λ (l : List ℕ). IsRead l c.in-Ok-read_request.asked) c.as_slice.ensures.value
+          c.in-Ok-read_request.ensures) (c.is_none.ensures ∙ ap not c.if-is_none.true))
+          (ap length c.as_slice-then-is_none.ensures.value)
           w.in-Err.ensures.failed)
     ]
 

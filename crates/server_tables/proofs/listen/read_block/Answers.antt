@@ -1,8 +1,9 @@
-use Rattle.std.proofs.Common.{◌∙◌, ◌++◌, ◌≤◌, ap, sym, refl, subst, arith, take, length, true≢false, List, ℕ}
+use Rattle.std.proofs.Common.{◌∙◌, ◌++◌, ◌≤◌, ap, sym, refl, subst, arith, take, length, true≢false, List, None, ℕ}
 use Rattle.std.proofs.lemmas.List.{length-take}
 use Rattle.server_tables.specs.Private.Coming.{Gives, HasBlock, IsSearched}
-use Rattle.server_tables.specs.Serving.{most_read, peer_told}
-use Rattle.server_tables.proofs.ListenLemmas.{grown}
+use Rattle.link_http1.specs.RequestHeads.{IsRead}
+use Rattle.server_tables.specs.Serving.{AskedOn, most_read, peer_told}
+use Rattle.server_tables.proofs.ListenLemmas.{asked-all, asked-more, grown, unread}
 use Rattle.server_tables.proofs.listen.read_block.Goals as goal
 
 pub returns-in_default-clause-stopped : goal.returns-in_default-clause-stopped
@@ -49,6 +50,14 @@ returns-then-finds_block-clause-came g c =
       quiet = c.in-Ok.ensures.cause.quiet ∙ is.quiet;
       block = λ _. subst HasBlock c.as_slice.ensures.value (c.if-finds_block.ensures.found refl);
       over = λ no. absurd (true≢false no);
+      asked_on = subst AskedOn (sym c.in-Ok-extend_from_slice.ensures.items)
+          (asked-more bytes (take c.in-Ok.count c.read.new.buf) is.none (omega (
+        arith,
+        length-take c.in-Ok.count c.read.new.buf,
+        c.read.auto.buf,
+        length-take c.min-room.result c.loop-buffer.buffer,
+        c.min-room.ensures,
+      )));
     }
 
 pub loop-buffer-preserved : goal.loop-buffer-preserved
@@ -65,6 +74,11 @@ loop-buffer-preserved g c =
       c.len-in-loop-buffer.ensures,
       is.few,
     )) in
+    let searched = c.if-finds_block.ensures.searched refl in
+    let all = c.if-finds_block.ensures.all refl in
+    let none : IsRead c.extend_from_slice.new.self.items None =
+    subst (λ (l : List ℕ). IsRead l None) c.as_slice.ensures.value
+    (unread c.finds_block.new.self c.as_slice.result.now searched all) in
     record {
       gives = subst (λ (l : List ℕ). Gives
           (peer_told g.P.Source.gives g.P.Sink.takes c.args.peer.now)
@@ -75,4 +89,6 @@ loop-buffer-preserved g c =
           (c.if-finds_block.ensures.searched refl);
       quiet = c.in-Ok.ensures.cause.quiet ∙ is.quiet;
       all = c.if-finds_block.ensures.all refl ∙ ap length c.as_slice.ensures.value;
+      none = none;
+      asked_on = asked-all c.extend_from_slice.new.self.items none;
     }

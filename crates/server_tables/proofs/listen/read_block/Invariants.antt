@@ -1,6 +1,8 @@
 use Rattle.std.proofs.Common.{◌≡◌, ◌≤◌, ◌-◌, length}
 use Rattle.server_tables.specs.Private.Coming.{Gives, IsSearched}
-use Rattle.server_tables.specs.Serving.{most_read, peer_told}
+use Rattle.std.proofs.Common.{None}
+use Rattle.link_http1.specs.RequestHeads.{IsRead}
+use Rattle.server_tables.specs.Serving.{AskedOn, most_read, peer_told}
 use Rattle.server_tables.proofs.listen.read_block.Given as goal
 
 -- these bytes came, all of them were searched, and no block ends in them
@@ -14,6 +16,8 @@ invariant-loop-buffer g l = record {
   searched : IsSearched l.search l.bytes.items;
   quiet : (g.P.Source.gives l.peer).faults ≡ (g.P.Source.gives l.fn.peer).faults;
   all : l.search.searched ≡ length l.bytes.items;
+  none : IsRead l.bytes.items None;
+  asked_on : AskedOn l.bytes.items;
 }
 
 abbrev pub decreases-loop-buffer : goal.decreases-loop-buffer

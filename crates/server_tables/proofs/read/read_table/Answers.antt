@@ -32,8 +32,8 @@ loop-rest-preserved c = record {
       (numbered-in c.loop-rest.line (take c.in-Some.end c.loop-rest.rest.now) c.if-line-gt-MOST_ROWS.false
       ∙ (ap row_in (sym c.split_at.ensures.front) ∙ (sym c.in_ok-row.ensures ∙ c.in-Some-2.is)))
       ∙ ap (λ (rows : List Row). rows_after rows (rows_from (c.loop-rest.line + 1)
-      (lines (drop (c.in-Some.end + 1) c.loop-rest.rest.now)))) (sym c.in_ok-table.ensures)
-      ∙ ap (λ (l : List ℕ). rows_after c.in_ok-table.table (rows_from (c.loop-rest.line + 1) (lines l)))
+      (lines (drop (c.in-Some.end + 1) c.loop-rest.rest.now)))) (sym c.in_ok-add.ensures.ok)
+      ∙ ap (λ (l : List ℕ). rows_after c.add.new.self (rows_from (c.loop-rest.line + 1) (lines l)))
       (sym c.split_at-in-loop-rest.ensures.back);
   few = omega (arith, c.if-line-gt-MOST_ROWS.false);
 }

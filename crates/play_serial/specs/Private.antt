@@ -1,0 +1,2 @@
+-- What the crate's private contracts alone cite: a play of some documents.
+pub mod SoFar

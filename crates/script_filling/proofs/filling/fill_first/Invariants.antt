@@ -1,0 +1,18 @@
+use Rattle.std.proofs.Common.{◌≡◌, ◌++◌, ℕ, List, Bor}
+use Rattle.std.specs.Prelude.{option_map}
+use Rattle.std.specs.List.{flat_map}
+use Rattle.script_commands.specs.Pieces.{pieces_behind}
+use Rattle.script_commands.specs.Templates.{filled, placed}
+use Rattle.script_filling.specs.Results.{lent_result, value_of}
+use Rattle.script_filling.proofs.FillingLemmas.{size_of}
+use Rattle.script_filling.proofs.filling.fill_first.Given as goal
+
+-- what was filled, and the pieces that are left
+abbrev pub invariant-loop-rest : goal.invariant-loop-rest
+invariant-loop-rest l =
+    filled (value_of (lent_result l.last)) l.template
+    ≡ l.text.items ++ flat_map (placed (value_of (lent_result l.last)))
+    (pieces_behind (option_map (λ (r : Bor (List ℕ)). r.now) l.rest))
+
+abbrev pub decreases-loop-rest : goal.decreases-loop-rest
+decreases-loop-rest l = size_of (option_map (λ (r : Bor (List ℕ)). r.now) l.rest)

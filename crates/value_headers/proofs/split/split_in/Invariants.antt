@@ -1,9 +1,0 @@
-use Rattle.std.proofs.Common.{◌≡◌, drop}
-use Rattle.value_headers.specs.Headers.{values_of}
-use Rattle.value_headers.specs.Split.{split_values}
-use Rattle.value_headers.proofs.SplitLemmas.{goes_on}
-use Rattle.value_headers.proofs.split.split_in.Given as goal
-
-abbrev pub invariant-loop-header : goal.invariant-loop-header
-invariant-loop-header l = split_values l.name l.headers
-    ≡ goes_on l.found l.splitter (values_of l.name (drop l.header-index l.headers))

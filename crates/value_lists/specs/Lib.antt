@@ -1,0 +1,3 @@
+pub mod Extract
+pub mod Private
+pub mod Split

@@ -1,0 +1,8 @@
+// The items in the values of headers, after the Fetch Standard, section 2.2.2.
+#![tactic(auto)]
+
+mod extract;
+mod split;
+
+pub use extract::{Extracted, Rule, extract};
+pub use split::{split_value, split_values};
