@@ -865,8 +865,8 @@ uint32_t fiorrudda_note_host(fiorrudda_handle *book, const uint8_t *host, size_t
 // be asked by https. The host is the domain of a URL, in lower case. Threads that share the book hold a lock of their
 // own around the call, as around each that is given the book.
 //
-// FIORRUDDA_OK where it is; FIORRUDDA_NO; FIORRUDDA_WRONG_HANDLE; FIORRUDDA_NOT_A_HOST, as of `fiorrudda_note_host`;
-// FIORRUDDA_TOO_LATE; FIORRUDDA_OUT_OF_MEMORY.
+// FIORRUDDA_OK where it is; FIORRUDDA_NO, which alone leaves an http URL as it is; FIORRUDDA_WRONG_HANDLE;
+// FIORRUDDA_NOT_A_HOST, as of `fiorrudda_note_host`; FIORRUDDA_TOO_LATE; FIORRUDDA_OUT_OF_MEMORY.
 uint32_t fiorrudda_known_host(fiorrudda_handle *book, const uint8_t *host, size_t host_len, uint64_t now);
 
 // Writes the text of a book, which `fiorrudda_book_of_text` reads back as the same book, so that what it knows lasts
