@@ -64,7 +64,12 @@ pub fn exposure_of(
 ) -> Result<Exposure, OutOfMemory>
     ensures { IfOk result (λ exposure. exposure ≡ private.exposure include headers.now) }
 {
-    let found = extract_values(alloc, headers, b"Access-Control-Expose-Headers", Rule::Tokens)?;
+    let found = extract_values(
+        alloc,
+        headers,
+        b"Access-Control-Expose-Headers",
+        Rule::Tokens,
+    )?;
     Ok(exposure_by(alloc, include, found))
 }
 

@@ -169,8 +169,18 @@ fn verdict_of(
 ) -> Result<Checked, OutOfMemory>
     ensures { IfOk result (λ checked. checked ≡ spec.verdict_of request.now unsafe_names.now headers.now) }
 {
-    let methods = extract_values(alloc, headers, b"Access-Control-Allow-Methods", Rule::Tokens)?;
-    let names = extract_values(alloc, headers, b"Access-Control-Allow-Headers", Rule::Tokens)?;
+    let methods = extract_values(
+        alloc,
+        headers,
+        b"Access-Control-Allow-Methods",
+        Rule::Tokens,
+    )?;
+    let names = extract_values(
+        alloc,
+        headers,
+        b"Access-Control-Allow-Headers",
+        Rule::Tokens,
+    )?;
     let Some(methods) = methods_of(alloc, request, methods)? else {
         return Ok(Checked::Refused(NetError::PreflightList));
     };
