@@ -478,13 +478,13 @@ uint32_t fiorrudda_same_site(const uint8_t *a, size_t a_len, const uint8_t *b, s
 // Whether a URL is potentially trustworthy (Secure Contexts, section 3.2, "is url potentially trustworthy"): it is
 // https, or it is http and its host is a localhost name, an address of 127.0.0.0/8 or ::1.
 //
-// FIORRUDDA_OK where it is; FIORRUDDA_NO; FIORRUDDA_NOT_A_URL; FIORRUDDA_OUT_OF_MEMORY.
+// FIORRUDDA_OK where it is, which alone gives leave; FIORRUDDA_NO; FIORRUDDA_NOT_A_URL; FIORRUDDA_OUT_OF_MEMORY.
 uint32_t fiorrudda_trustworthy(const uint8_t *url, size_t url_len);
 
 // Whether a URL has a bad port, to which nothing is sent (Fetch, section 2.9, "bad port").
 //
-// FIORRUDDA_OK where the port is bad; FIORRUDDA_NO; FIORRUDDA_NOT_A_URL; FIORRUDDA_NOT_HTTP; FIORRUDDA_OUT_OF_MEMORY.
-// Test for FIORRUDDA_NO: then no error is taken for leave.
+// FIORRUDDA_OK where the port is bad; FIORRUDDA_NO, which alone gives leave; FIORRUDDA_NOT_A_URL; FIORRUDDA_NOT_HTTP;
+// FIORRUDDA_OUT_OF_MEMORY.
 uint32_t fiorrudda_bad_port(const uint8_t *url, size_t url_len);
 
 // Writes the referrer that a policy tells the URL `target` of the page `source` at the beginning of `room`, with no
@@ -536,15 +536,15 @@ uint32_t fiorrudda_safelisted(const uint8_t *name, size_t name_len, const uint8_
 // with no NUL after it, and tells in `len` how many bytes it is (Fetch, section 2.2.2). They are in lower case, each
 // once, and ascend by their bytes: those of which a preflight asks.
 //
-// FIORRUDDA_OK; FIORRUDDA_NO behind the last; FIORRUDDA_TOO_SHORT where `room` has less than `len` bytes;
-// FIORRUDDA_WRONG_HANDLE; FIORRUDDA_OUT_OF_MEMORY. But for FIORRUDDA_OK nothing is written to `room`, and but for
-// FIORRUDDA_OK and FIORRUDDA_TOO_SHORT nothing to `len`.
+// FIORRUDDA_OK; FIORRUDDA_NO, which alone says that there are no more, behind the last; FIORRUDDA_TOO_SHORT where
+// `room` has less than `len` bytes; FIORRUDDA_WRONG_HANDLE; FIORRUDDA_OUT_OF_MEMORY. But for FIORRUDDA_OK nothing is
+// written to `room`, and but for FIORRUDDA_OK and FIORRUDDA_TOO_SHORT nothing to `len`.
 uint32_t fiorrudda_unsafe_name(fiorrudda_handle *headers, size_t at, uint8_t *room, size_t room_len, size_t *len);
 
 // Whether a name and a value are a forbidden request-header, which no script can set (Fetch, section 2.2.2).
 //
-// FIORRUDDA_OK where they are; FIORRUDDA_NO; FIORRUDDA_NOT_A_HEADER; FIORRUDDA_OUT_OF_MEMORY. Test for FIORRUDDA_NO:
-// then no error is taken for leave.
+// FIORRUDDA_OK where they are; FIORRUDDA_NO, which alone gives leave; FIORRUDDA_NOT_A_HEADER;
+// FIORRUDDA_OUT_OF_MEMORY.
 uint32_t fiorrudda_forbidden_header(const uint8_t *name, size_t name_len, const uint8_t *value, size_t value_len);
 
 // Whether a method is forbidden to scripts: CONNECT, TRACE or TRACK, in any case (Fetch, section 2.2.1).
@@ -573,22 +573,22 @@ uint32_t fiorrudda_essence(fiorrudda_handle *headers, uint8_t *room, size_t room
 // "determine nosniff" of an answer's header list (Fetch, section 3.6): scripts and styles of another MIME type are
 // blocked then.
 //
-// FIORRUDDA_OK where the answer says nosniff; FIORRUDDA_NO; FIORRUDDA_WRONG_HANDLE.
+// FIORRUDDA_OK where the answer says nosniff; FIORRUDDA_NO, which alone gives leave; FIORRUDDA_WRONG_HANDLE.
 uint32_t fiorrudda_nosniff(fiorrudda_handle *headers);
 
 // Whether an answer to a request is blocked for its MIME type, by its header list: one of a script that is audio,
 // image, video or CSV (Fetch, section 2.10, "should response to request be blocked due to its MIME type").
 //
-// FIORRUDDA_OK where it is blocked; FIORRUDDA_NO; FIORRUDDA_WRONG_HANDLE; FIORRUDDA_OUT_OF_MEMORY. Test for
-// FIORRUDDA_NO: then no error is taken for leave.
+// FIORRUDDA_OK where it is blocked; FIORRUDDA_NO, which alone gives leave; FIORRUDDA_WRONG_HANDLE;
+// FIORRUDDA_OUT_OF_MEMORY.
 uint32_t fiorrudda_type_blocked(fiorrudda_handle *request, fiorrudda_handle *headers);
 
 // Whether an answer to a request is blocked since it says nosniff, by its header list: one of a script that is no
 // JavaScript, or of a style that is not `text/css` (Fetch, section 3.6.1, "should response to request be blocked due
 // to nosniff").
 //
-// FIORRUDDA_OK where it is blocked; FIORRUDDA_NO; FIORRUDDA_WRONG_HANDLE; FIORRUDDA_OUT_OF_MEMORY. Test for
-// FIORRUDDA_NO: then no error is taken for leave.
+// FIORRUDDA_OK where it is blocked; FIORRUDDA_NO, which alone gives leave; FIORRUDDA_WRONG_HANDLE;
+// FIORRUDDA_OUT_OF_MEMORY.
 uint32_t fiorrudda_nosniff_blocked(fiorrudda_handle *request, fiorrudda_handle *headers);
 
 // Whether a whole body matches an integrity text (Subresource Integrity, section 3.3, "do bytes match metadataList").
@@ -600,9 +600,8 @@ uint32_t fiorrudda_integrity(const uint8_t *metadata, size_t metadata_len, const
 // Whether the answer of a URL is kept from a page's requests in mode no-cors (Fetch, section 3.7, "cross-origin
 // resource policy check", of the page's origin and the URL's).
 //
-// FIORRUDDA_OK where it is kept from them; FIORRUDDA_NO; FIORRUDDA_WRONG_HANDLE; FIORRUDDA_NOT_A_URL and
-// FIORRUDDA_NOT_HTTP, of the page or of the URL; FIORRUDDA_OUT_OF_MEMORY. Test for FIORRUDDA_NO: then no error is
-// taken for leave.
+// FIORRUDDA_OK where it is kept from them; FIORRUDDA_NO, which alone gives leave; FIORRUDDA_WRONG_HANDLE;
+// FIORRUDDA_NOT_A_URL and FIORRUDDA_NOT_HTTP, of the page or of the URL; FIORRUDDA_OUT_OF_MEMORY.
 uint32_t fiorrudda_resource_policy(const uint8_t *page, size_t page_len, const uint8_t *url, size_t url_len, fiorrudda_handle *headers);
 
 // ---- Clients and requests, for the rules below and for whole fetches
@@ -701,7 +700,7 @@ uint32_t fiorrudda_policies(fiorrudda_handle *policies, fiorrudda_handle *header
 // https ones (Upgrade Insecure Requests, section 4.1, "upgrade request to a potentially trustworthy URL, if
 // appropriate").
 //
-// FIORRUDDA_OK where one has; FIORRUDDA_NO; FIORRUDDA_WRONG_HANDLE.
+// FIORRUDDA_OK where one has; FIORRUDDA_NO, which alone leaves an http URL as it is; FIORRUDDA_WRONG_HANDLE.
 uint32_t fiorrudda_upgrades(fiorrudda_handle *policies);
 
 // Makes in a handle the violations of policies by a client's request, or by its response: one of the numbers
@@ -751,17 +750,17 @@ uint32_t fiorrudda_source_matches(const uint8_t *word, size_t word_len, const ui
 // trustworthy, http becomes https (Mixed Content, section 4.1, "upgrade a mixed content request to a potentially
 // trustworthy URL, if appropriate"). `redirect` is the URL to which the request was redirected, or empty.
 //
-// FIORRUDDA_OK where it is upgraded; FIORRUDDA_NO; FIORRUDDA_WRONG_HANDLE; FIORRUDDA_NO_REQUEST where none can be
-// made of what is asked for, or nothing redirects it; FIORRUDDA_NOT_A_URL and FIORRUDDA_NOT_HTTP, of `redirect`;
-// FIORRUDDA_OUT_OF_MEMORY.
+// FIORRUDDA_OK where it is upgraded; FIORRUDDA_NO, which alone leaves an http URL as it is; FIORRUDDA_WRONG_HANDLE;
+// FIORRUDDA_NO_REQUEST where none can be made of what is asked for, or nothing redirects it; FIORRUDDA_NOT_A_URL and
+// FIORRUDDA_NOT_HTTP, of `redirect`; FIORRUDDA_OUT_OF_MEMORY.
 uint32_t fiorrudda_mixed_upgraded(fiorrudda_handle *client, fiorrudda_handle *request, const uint8_t *redirect, size_t redirect_len);
 
 // Whether a client's request is blocked as mixed content (Mixed Content, section 4.4, "should fetching request be
 // blocked as mixed content?"). Ask first whether it is upgraded: one that is, is not blocked. `redirect` is the URL
 // to which the request was redirected, or empty.
 //
-// FIORRUDDA_OK where it is blocked; FIORRUDDA_NO; and the other codes of `fiorrudda_mixed_upgraded`. Test for
-// FIORRUDDA_NO: then no error is taken for leave.
+// FIORRUDDA_OK where it is blocked; FIORRUDDA_NO, which alone gives leave; and the other codes of
+// `fiorrudda_mixed_upgraded`.
 uint32_t fiorrudda_mixed_blocked(fiorrudda_handle *client, fiorrudda_handle *request, const uint8_t *redirect, size_t redirect_len);
 
 // ---- Preflights
@@ -782,10 +781,11 @@ uint32_t fiorrudda_mixed_blocked(fiorrudda_handle *client, fiorrudda_handle *req
 // It is not looked at whether main fetch blocks the request before, by its port, as mixed content or by a policy, or
 // upgrades its URL.
 //
-// FIORRUDDA_OK; FIORRUDDA_NO where the request's mode, method and headers ask for no preflight; FIORRUDDA_TOO_SHORT
-// where `room` has less than `len` bytes; FIORRUDDA_WRONG_HANDLE; FIORRUDDA_NO_REQUEST where none can be made of what
-// is asked for; FIORRUDDA_NOT_HTTP, of its URL; FIORRUDDA_OUT_OF_MEMORY. But for FIORRUDDA_OK nothing is written to
-// `room`, and but for FIORRUDDA_OK and FIORRUDDA_TOO_SHORT nothing to `len`.
+// FIORRUDDA_OK; FIORRUDDA_NO, which alone gives leave to send none, where the request's mode, method and headers ask
+// for no preflight; FIORRUDDA_TOO_SHORT where `room` has less than `len` bytes; FIORRUDDA_WRONG_HANDLE;
+// FIORRUDDA_NO_REQUEST where none can be made of what is asked for; FIORRUDDA_NOT_HTTP, of its URL;
+// FIORRUDDA_OUT_OF_MEMORY. But for FIORRUDDA_OK nothing is written to `room`, and but for FIORRUDDA_OK and
+// FIORRUDDA_TOO_SHORT nothing to `len`.
 uint32_t fiorrudda_preflight(fiorrudda_handle *client, fiorrudda_handle *request, uint8_t *room, size_t room_len, size_t *len);
 
 // Tells the verdict on an answer to the preflight of a client's request, of a status and a header list (Fetch,
@@ -868,8 +868,8 @@ uint32_t fiorrudda_note_host(fiorrudda_handle *book, const uint8_t *host, size_t
 // be asked by https. The host is the domain of a URL, in lower case. Threads that share the book hold a lock of their
 // own around the call, as around each that is given the book.
 //
-// FIORRUDDA_OK where it is; FIORRUDDA_NO; FIORRUDDA_WRONG_HANDLE; FIORRUDDA_NOT_A_HOST, as of `fiorrudda_note_host`;
-// FIORRUDDA_TOO_LATE; FIORRUDDA_OUT_OF_MEMORY.
+// FIORRUDDA_OK where it is; FIORRUDDA_NO, which alone leaves an http URL as it is; FIORRUDDA_WRONG_HANDLE;
+// FIORRUDDA_NOT_A_HOST, as of `fiorrudda_note_host`; FIORRUDDA_TOO_LATE; FIORRUDDA_OUT_OF_MEMORY.
 uint32_t fiorrudda_known_host(fiorrudda_handle *book, const uint8_t *host, size_t host_len, uint64_t now);
 
 // Writes the text of a book, which `fiorrudda_book_of_text` reads back as the same book, so that what it knows lasts

@@ -26,11 +26,7 @@ use value_text::OutOfMemory;
 /// no history, or a line of it is no entry's; an entry is not what the book gives; an entry names no document; a
 /// document makes other calls than those of its entries; the text is not that of the play with this history. Else it
 /// is `Play`.
-pub fn audit(
-    alloc: Global,
-    scenario: &[u8],
-    play: &[u8],
-) -> Result<Verdict, OutOfMemory>
+pub fn audit(alloc: Global, scenario: &[u8], play: &[u8]) -> Result<Verdict, OutOfMemory>
     ensures { IfOk result (IsVerdict scenario.now play.now) }
 {
     match read_scenario(alloc, scenario)? {
@@ -40,11 +36,7 @@ pub fn audit(
 }
 
 // The verdict on a text, by its scenario.
-fn audit_text(
-    alloc: Global,
-    scenario: &Scenario,
-    play: &[u8],
-) -> Result<Verdict, OutOfMemory>
+fn audit_text(alloc: Global, scenario: &Scenario, play: &[u8]) -> Result<Verdict, OutOfMemory>
     requires { IsValid scenario.now }
     ensures { (bytes : List ℕ) → scenario_of bytes ≡ Ok scenario.entry.now → IfOk result (IsVerdict bytes play.now) }
 {

@@ -82,12 +82,7 @@ fn shared(alloc: Global, number: u64) -> Result<Shared<Op>, Failed>
 }
 
 // Makes so many calls on a pass, or fewer where memory runs out, and says how many were answered.
-fn calls<S: Share>(
-    alloc: Global,
-    share: &S,
-    pass: &mut S::Pass,
-    count: u32,
-) -> u64
+fn calls<S: Share>(alloc: Global, share: &S, pass: &mut S::Pass, count: u32) -> u64
     requires belongs { S.belongs share.now pass.old }
     requires left { count ≤ (S.account pass.old).left }
 {

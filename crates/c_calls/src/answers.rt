@@ -11,7 +11,7 @@ use std::alloc::Global;
 /// "determine nosniff" of an answer's header list (Fetch, section 3.6): scripts and styles of another MIME type are
 /// blocked then.
 ///
-/// `OK` where the answer says nosniff; `NO`; `WRONG_HANDLE`.
+/// `OK` where the answer says nosniff; `NO`, which alone gives leave; `WRONG_HANDLE`.
 #[unsafe(no_mangle)]
 pub extern "C" fn fiorrudda_nosniff(headers: &mut Handle) -> u32
     ensures told { result ≡ nosniff headers.old.held }

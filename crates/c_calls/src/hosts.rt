@@ -54,7 +54,8 @@ pub extern "C" fn fiorrudda_note_host(
 /// be asked by https. The host is the domain of a URL, in lower case. Threads that share the book hold a lock of their
 /// own around the call, as around each that is given the book.
 ///
-/// `OK` where it is; `NO`; `WRONG_HANDLE`; `NOT_A_HOST`, as of `fiorrudda_note_host`; `TOO_LATE`; `OUT_OF_MEMORY`.
+/// `OK` where it is; `NO`, which alone leaves an http URL as it is; `WRONG_HANDLE`; `NOT_A_HOST`, as of
+/// `fiorrudda_note_host`; `TOO_LATE`; `OUT_OF_MEMORY`.
 #[unsafe(no_mangle)]
 pub extern "C" fn fiorrudda_known_host(
     alloc: Global,

@@ -50,7 +50,7 @@ pub extern "C" fn fiorrudda_same_site(alloc: Global, a: &[u8], b: &[u8]) -> u32
 /// Whether a URL is potentially trustworthy (Secure Contexts, section 3.2, "is url potentially trustworthy"): it is
 /// https, or it is http and its host is a localhost name, an address of 127.0.0.0/8 or ::1.
 ///
-/// `OK` where it is; `NO`; `NOT_A_URL`; `OUT_OF_MEMORY`.
+/// `OK` where it is, which alone gives leave; `NO`; `NOT_A_URL`; `OUT_OF_MEMORY`.
 #[unsafe(no_mangle)]
 pub extern "C" fn fiorrudda_trustworthy(alloc: Global, url: &[u8]) -> u32
     ensures { result ≢ OUT_OF_MEMORY → result ≡ told (origins.is_trustworthy url.now) }
@@ -60,8 +60,7 @@ pub extern "C" fn fiorrudda_trustworthy(alloc: Global, url: &[u8]) -> u32
 
 /// Whether a URL has a bad port, to which nothing is sent (Fetch, section 2.9, "bad port").
 ///
-/// `OK` where the port is bad; `NO`; `NOT_A_URL`; `NOT_HTTP`; `OUT_OF_MEMORY`. Test for `NO`: then no error is taken
-/// for leave.
+/// `OK` where the port is bad; `NO`, which alone gives leave; `NOT_A_URL`; `NOT_HTTP`; `OUT_OF_MEMORY`.
 #[unsafe(no_mangle)]
 pub extern "C" fn fiorrudda_bad_port(alloc: Global, url: &[u8]) -> u32
     ensures { result ≢ OUT_OF_MEMORY → result ≡ told (origins.goes_to_bad_port url.now) }

@@ -32,8 +32,8 @@ pub extern "C" fn fiorrudda_cors_check(origin: &[u8], include: bool, headers: &m
 /// Whether the answer of a URL is kept from a page's requests in mode no-cors (Fetch, section 3.7, "cross-origin
 /// resource policy check", of the page's origin and the URL's).
 ///
-/// `OK` where it is kept from them; `NO`; `WRONG_HANDLE`; `NOT_A_URL` and `NOT_HTTP`, of the page or of the URL;
-/// `OUT_OF_MEMORY`. Test for `NO`: then no error is taken for leave.
+/// `OK` where it is kept from them; `NO`, which alone gives leave; `WRONG_HANDLE`; `NOT_A_URL` and `NOT_HTTP`, of the
+/// page or of the URL; `OUT_OF_MEMORY`.
 #[unsafe(no_mangle)]
 pub extern "C" fn fiorrudda_resource_policy(
     alloc: Global,

@@ -5,7 +5,8 @@ ghost use Rattle.c_handle.specs.Codes.{code_of, some_text, told, yes_or_no, IsTe
 ghost use Rattle.c_rules.specs.Answers.{IsUnlessMemory};
 
 use crate::codes::{
-    NO, NO_REQUEST, NOT_A_HEADER, NOT_A_HOST, NOT_A_URL, NOT_HTTP, OK, OUT_OF_MEMORY, TOO_LATE, TOO_SHORT,
+    NO, NO_REQUEST, NOT_A_HEADER, NOT_A_HOST, NOT_A_URL, NOT_HTTP, OK, OUT_OF_MEMORY, TOO_LATE,
+    TOO_SHORT,
 };
 use c_rules::Refusal;
 use value_text::Bytes;

@@ -109,7 +109,7 @@ pub extern "C" fn fiorrudda_filtered(
 /// Whether an answer to a request is blocked for its MIME type, by its header list: one of a script that is audio,
 /// image, video or CSV (Fetch, section 2.10, "should response to request be blocked due to its MIME type").
 ///
-/// `OK` where it is blocked; `NO`; `WRONG_HANDLE`; `OUT_OF_MEMORY`. Test for `NO`: then no error is taken for leave.
+/// `OK` where it is blocked; `NO`, which alone gives leave; `WRONG_HANDLE`; `OUT_OF_MEMORY`.
 #[unsafe(no_mangle)]
 pub extern "C" fn fiorrudda_type_blocked(
     alloc: Global,
@@ -133,7 +133,7 @@ pub extern "C" fn fiorrudda_type_blocked(
 /// JavaScript, or of a style that is not `text/css` (Fetch, section 3.6.1, "should response to request be blocked due
 /// to nosniff").
 ///
-/// `OK` where it is blocked; `NO`; `WRONG_HANDLE`; `OUT_OF_MEMORY`. Test for `NO`: then no error is taken for leave.
+/// `OK` where it is blocked; `NO`, which alone gives leave; `WRONG_HANDLE`; `OUT_OF_MEMORY`.
 #[unsafe(no_mangle)]
 pub extern "C" fn fiorrudda_nosniff_blocked(
     alloc: Global,

@@ -25,8 +25,9 @@ pub const CHECK_RESPONSE: u32 = 2;
 /// trustworthy, http becomes https (Mixed Content, section 4.1, "upgrade a mixed content request to a potentially
 /// trustworthy URL, if appropriate"). `redirect` is the URL to which the request was redirected, or empty.
 ///
-/// `OK` where it is upgraded; `NO`; `WRONG_HANDLE`; `NO_REQUEST` where none can be made of what is asked for, or
-/// nothing redirects it; `NOT_A_URL` and `NOT_HTTP`, of `redirect`; `OUT_OF_MEMORY`.
+/// `OK` where it is upgraded; `NO`, which alone leaves an http URL as it is; `WRONG_HANDLE`; `NO_REQUEST` where none
+/// can be made of what is asked for, or nothing redirects it; `NOT_A_URL` and `NOT_HTTP`, of `redirect`;
+/// `OUT_OF_MEMORY`.
 #[unsafe(no_mangle)]
 pub extern "C" fn fiorrudda_mixed_upgraded(
     alloc: Global,
@@ -52,8 +53,7 @@ pub extern "C" fn fiorrudda_mixed_upgraded(
 /// blocked as mixed content?"). Ask first whether it is upgraded: one that is, is not blocked. `redirect` is the URL to
 /// which the request was redirected, or empty.
 ///
-/// `OK` where it is blocked; `NO`; and the other codes of `fiorrudda_mixed_upgraded`. Test for `NO`: then no error is
-/// taken for leave.
+/// `OK` where it is blocked; `NO`, which alone gives leave; and the other codes of `fiorrudda_mixed_upgraded`.
 #[unsafe(no_mangle)]
 pub extern "C" fn fiorrudda_mixed_blocked(
     alloc: Global,

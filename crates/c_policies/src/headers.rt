@@ -58,8 +58,9 @@ pub extern "C" fn fiorrudda_value_at(
 /// with no NUL after it, and tells in `len` how many bytes it is (Fetch, section 2.2.2). They are in lower case, each
 /// once, and ascend by their bytes: those of which a preflight asks.
 ///
-/// `OK`; `NO` behind the last; `TOO_SHORT` where `room` has less than `len` bytes; `WRONG_HANDLE`; `OUT_OF_MEMORY`. But
-/// for `OK` nothing is written to `room`, and but for `OK` and `TOO_SHORT` nothing to `len`.
+/// `OK`; `NO`, which alone says that there are no more, behind the last; `TOO_SHORT` where `room` has less than `len`
+/// bytes; `WRONG_HANDLE`; `OUT_OF_MEMORY`. But for `OK` nothing is written to `room`, and but for `OK` and `TOO_SHORT`
+/// nothing to `len`.
 #[unsafe(no_mangle)]
 pub extern "C" fn fiorrudda_unsafe_name(
     alloc: Global,
@@ -109,7 +110,7 @@ pub extern "C" fn fiorrudda_exposed_name(
 
 /// Whether a name and a value are a forbidden request-header, which no script can set (Fetch, section 2.2.2).
 ///
-/// `OK` where they are; `NO`; `NOT_A_HEADER`; `OUT_OF_MEMORY`. Test for `NO`: then no error is taken for leave.
+/// `OK` where they are; `NO`, which alone gives leave; `NOT_A_HEADER`; `OUT_OF_MEMORY`.
 #[unsafe(no_mangle)]
 pub extern "C" fn fiorrudda_forbidden_header(alloc: Global, name: &[u8], value: &[u8]) -> u32
     ensures { result ≢ OUT_OF_MEMORY → result ≡ told (names.is_forbidden name.now value.now) }

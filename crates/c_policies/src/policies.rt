@@ -34,7 +34,7 @@ pub extern "C" fn fiorrudda_policies(
 /// https ones (Upgrade Insecure Requests, section 4.1, "upgrade request to a potentially trustworthy URL, if
 /// appropriate").
 ///
-/// `OK` where one has; `NO`; `WRONG_HANDLE`.
+/// `OK` where one has; `NO`, which alone leaves an http URL as it is; `WRONG_HANDLE`.
 #[unsafe(no_mangle)]
 pub extern "C" fn fiorrudda_upgrades(policies: &mut Handle) -> u32
     ensures told { result ≡ upgrades_code policies.old.held }

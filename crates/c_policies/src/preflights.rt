@@ -18,9 +18,10 @@ use std::alloc::Global;
 /// It is not looked at whether main fetch blocks the request before, by its port, as mixed content or by a policy, or
 /// upgrades its URL.
 ///
-/// `OK`; `NO` where the request's mode, method and headers ask for no preflight; `TOO_SHORT` where `room` has less than
-/// `len` bytes; `WRONG_HANDLE`; `NO_REQUEST` where none can be made of what is asked for; `NOT_HTTP`, of its URL;
-/// `OUT_OF_MEMORY`. But for `OK` nothing is written to `room`, and but for `OK` and `TOO_SHORT` nothing to `len`.
+/// `OK`; `NO`, which alone gives leave to send none, where the request's mode, method and headers ask for no preflight;
+/// `TOO_SHORT` where `room` has less than `len` bytes; `WRONG_HANDLE`; `NO_REQUEST` where none can be made of what is
+/// asked for; `NOT_HTTP`, of its URL; `OUT_OF_MEMORY`. But for `OK` nothing is written to `room`, and but for `OK` and
+/// `TOO_SHORT` nothing to `len`.
 #[unsafe(no_mangle)]
 pub extern "C" fn fiorrudda_preflight(
     alloc: Global,

@@ -10,7 +10,7 @@ use crate::answers::Redirection;
 use crate::judging::is_to_follow;
 use std::alloc::Global;
 use url::Url;
-use value_lists::{Extracted, Rule, extract};
+use value_lists::{Extracted, Rule, extract_values};
 use value_origins::{is_http_url, is_origin_of};
 use value_requests::{
     Head, MOST_REDIRECTS, NetError, Request, has_credentials, unless_long, url_against,
@@ -148,6 +148,6 @@ pub fn redirection(
     if !is_to_follow(request, head) {
         return Ok(Redirection::Stays);
     }
-    let location = extract(alloc, &head.headers, b"Location", Rule::Single)?;
+    let location = extract_values(alloc, &head.headers, b"Location", Rule::Single)?;
     redirection_by(alloc, request, location)
 }

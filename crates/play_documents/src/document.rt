@@ -112,7 +112,9 @@ fn run_document<F: Fetcher, S: Share, L: Link>(
         cookies: &scenario.cookies,
         limit: scenario.body_limit,
     };
-    Ok(play_script(fetcher, &lent, number, key, document, base, &mut wire, pass, link))
+    Ok(play_script(
+        fetcher, &lent, number, key, document, base, &mut wire, pass, link,
+    ))
 }
 
 /// Plays a document's script with what plays its fetches, over a link and a share of the book, from a time in seconds on,
@@ -146,7 +148,9 @@ pub fn drive<F: Fetcher, S: Share, L: Link>(
     ensures pass { KeepsPass S.account (S.belongs share.now) most_calls pass.old pass.new }
 {
     let one = scenario.documents.at(document as usize);
-    match run_document(fetcher, alloc, scenario, document, one, base, share, pass, link) {
+    match run_document(
+        fetcher, alloc, scenario, document, one, base, share, pass, link,
+    ) {
         Ok(transcript) => transcript,
         Err(OutOfMemory) => Transcript {
             document,

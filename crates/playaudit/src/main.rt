@@ -23,12 +23,6 @@ fn main(rt: HostRuntime) -> ExitCode {
     let mut input = StandardInput::new(rt.stdin());
     let mut output = StandardOutput::new(rt.stdout());
     let mut complaints = StandardError::new(rt.stderr());
-    let status = playaudit(
-        rt.alloc(),
-        words,
-        &mut input,
-        &mut output,
-        &mut complaints,
-    );
+    let status = playaudit(rt.alloc(), words, &mut input, &mut output, &mut complaints);
     ExitCode::from(status.number())
 }

@@ -6,7 +6,7 @@ ghost use Rattle.policy_filter.specs.Private.Exposing as private;
 
 use std::alloc::Global;
 use value_headers::{Field, HeaderList};
-use value_lists::{Extracted, Rule, extract};
+use value_lists::{Extracted, Rule, extract_values};
 use value_text::{Bytes, BytesList, OutOfMemory, has_text_fold, has_wildcard};
 
 /// The names of response headers that a CORS response exposes.
@@ -64,7 +64,12 @@ pub fn exposure_of(
 ) -> Result<Exposure, OutOfMemory>
     ensures { IfOk result (λ exposure. exposure ≡ private.exposure include headers.now) }
 {
-    let found = extract(alloc, headers, b"Access-Control-Expose-Headers", Rule::Tokens)?;
+    let found = extract_values(
+        alloc,
+        headers,
+        b"Access-Control-Expose-Headers",
+        Rule::Tokens,
+    )?;
     Ok(exposure_by(alloc, include, found))
 }
 

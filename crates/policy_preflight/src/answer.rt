@@ -7,7 +7,7 @@ use crate::allowed::{first_unlisted, has_name};
 use policy_checks::passes_cors_check;
 use std::alloc::Global;
 use value_headers::HeaderList;
-use value_lists::{Extracted, Rule, extract};
+use value_lists::{Extracted, Rule, extract_values};
 use value_requests::{Credentials, Head, NetError, Request, is_ok_status, is_safelisted_method};
 use value_text::{
     AUTHORIZATION, Bytes, BytesList, OutOfMemory, has_text, has_wildcard, parse_digits,
@@ -169,15 +169,25 @@ fn verdict_of(
 ) -> Result<Checked, OutOfMemory>
     ensures { IfOk result (λ checked. checked ≡ spec.verdict_of request.now unsafe_names.now headers.now) }
 {
-    let methods = extract(alloc, headers, b"Access-Control-Allow-Methods", Rule::Tokens)?;
-    let names = extract(alloc, headers, b"Access-Control-Allow-Headers", Rule::Tokens)?;
+    let methods = extract_values(
+        alloc,
+        headers,
+        b"Access-Control-Allow-Methods",
+        Rule::Tokens,
+    )?;
+    let names = extract_values(
+        alloc,
+        headers,
+        b"Access-Control-Allow-Headers",
+        Rule::Tokens,
+    )?;
     let Some(methods) = methods_of(alloc, request, methods)? else {
         return Ok(Checked::Refused(NetError::PreflightList));
     };
     let Some(names) = names_of(alloc, names) else {
         return Ok(Checked::Refused(NetError::PreflightList));
     };
-    let age = age_of(&extract(alloc, headers, b"Access-Control-Max-Age", Rule::Digits)?);
+    let age = age_of(&extract_values(alloc, headers, b"Access-Control-Max-Age", Rule::Digits)?);
     verdict_by(alloc, request, unsafe_names, age, methods, names)
 }
 

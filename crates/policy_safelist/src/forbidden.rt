@@ -80,11 +80,7 @@ fn has_forbidden_method(methods: &BytesList) -> bool
 }
 
 /// Whether a name and a value are a forbidden request-header (Fetch, section 2.2.2, "forbidden request-header").
-pub fn is_forbidden_header(
-    alloc: Global,
-    name: &[u8],
-    value: &[u8],
-) -> Result<bool, OutOfMemory>
+pub fn is_forbidden_header(alloc: Global, name: &[u8], value: &[u8]) -> Result<bool, OutOfMemory>
     ensures { IfOk result (λ forbidden. forbidden ≡ spec.is_forbidden_header name.now value.now) }
 {
     if is_among_fold(&FORBIDDEN_NAMES, name) || begins_with_any(&FORBIDDEN_PREFIXES, name) {

@@ -27,9 +27,8 @@ pub type ServeStatus = Status<BadLine>;
 
 /// The program, from its words to its status. The words are tested first. Then the input is read whole and as an
 /// allow table, the address that the words name is listened at, and as many connections as they say are served
-/// by the table, one after the other; for each a line is written to the output, once its end was taken back. A
-/// status other than `Ok` is told by one line on the complaints; where that line cannot be written the answer is
-/// `WriteFault`.
+/// by the table; for each, in their order, a line is written to the output. A status other than `Ok` is told by one
+/// line on the complaints; where that line cannot be written the answer is `WriteFault`.
 ///
 /// `Usage` exactly where the words are not accepted, and then nothing is read or written. `Refused` exactly where
 /// the input is no table, with its first line that has not the form. `ReadFault` only where the input failed,

@@ -34,11 +34,10 @@ const MOST_DOCUMENTS: usize = 16;
 pub type ReportStatus = Status<Place>;
 
 /// The program, from its words to its status. The words are tested first: `play` alone is accepted. The input is then
-/// read whole, read as a scenario, and played over the scenario's own servers, on threads where these can be made.
-/// Once all scripts have ended the reports of each document are delivered, in order of
-/// documents, over its own link and its own pass of the shared book, and the text of the reports is written to the
-/// output. A status other than `Ok` is told by one line on the complaints; where that line cannot be written the answer
-/// is `WriteFault`.
+/// read whole, read as a scenario of at most 16 documents, and played with its reports over the scenario's own servers:
+/// in the history all calls of reports stand behind those of the scripts, in order of documents. The text of the
+/// reports is written to the output. A status other than `Ok` is told by one line on the complaints; where that line
+/// cannot be written the answer is `WriteFault`.
 ///
 /// `Usage` exactly where the words are not accepted, and then nothing is read or written. `Refused` exactly where the
 /// input is no scenario, with the first refused place, or one of more than 16 documents, with `/documents`. `ReadFault`

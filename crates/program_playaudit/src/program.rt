@@ -64,11 +64,7 @@ fn status<S: Source, K: Sink>(
 }
 
 // The status by the input and the output.
-fn audit_input<S: Source, K: Sink>(
-    alloc: Global,
-    input: &mut S,
-    output: &mut K,
-) -> AuditStatus
+fn audit_input<S: Source, K: Sink>(alloc: Global, input: &mut S, output: &mut K) -> AuditStatus
     ensures { IsDone (S.gives input.old) (S.gives input.new)
         (K.takes output.old) (K.takes output.new) result }
 {

@@ -5,8 +5,7 @@ ghost use Rattle.report_delivery.specs.Laws.{RestOnViolations};
 ghost use Rattle.script_scenarios.specs.declared.document.Document.{Document};
 
 /// The reports of a document rest on the violations that it was told and on nothing else: two runs with the same
-/// violations have the same reports. What a violation tells of a URL is the first of the request's URL list, so a
-/// report does not show where redirects led.
+/// violations have the same reports.
 pub fn law_first_urls()
     ensures { (document : Document) (one other : List Event) → RestOnViolations document one other }
 {}

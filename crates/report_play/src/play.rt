@@ -92,9 +92,8 @@ fn play_seated<R: Threads + Wait + Sync, L: Link + Send + Drop>(
     })
 }
 
-/// Plays a scenario over its own servers, from its own time on, on at most 16 threads. Once all scripts have ended it
-/// delivers the reports of each document, in order of documents, over the document's own link and the book as it is
-/// then. The one history is that of the scripts, and then that of the reports.
+/// Plays a scenario over its own servers, from its own time on, with the reports of each document, at the time at which
+/// its script ended. The one history is that of the scripts, and then that of the reports, in order of documents.
 ///
 /// `OutOfMemory` where memory was refused, to a document, to its reports or to what surrounds them.
 pub fn play_reported<R: Threads + Wait + Sync>(

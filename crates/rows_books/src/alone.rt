@@ -91,11 +91,7 @@ fn show_history(history: &History, shown: &mut Shown)
 }
 
 // Two calls on a pass.
-fn note_and_ask(
-    alloc: Global,
-    share: &SoloBook,
-    pass: &mut SoloPass,
-) -> Result<(), Failed>
+fn note_and_ask(alloc: Global, share: &SoloBook, pass: &mut SoloPass) -> Result<(), Failed>
     requires { pass.old.calls ≡ 0 }
 {
     share.call(alloc, pass, Shared::new(alloc, op_of(alloc, NOTE)?)?)?;
@@ -113,10 +109,7 @@ fn left(alloc: Global, shown: &mut Shown) -> (Book, History) {
 }
 
 // A book that one pass has for itself. The book is asked once more, and its history takes an entry more.
-pub(crate) fn show_pass(
-    alloc: Global,
-    shown: &mut Shown,
-) -> Result<(), Failed> {
+pub(crate) fn show_pass(alloc: Global, shown: &mut Shown) -> Result<(), Failed> {
     shown.add(b"# one pass\n");
     let (mut book, mut history) = left(alloc, shown);
     tell(alloc, &mut book, KNOWN, shown);

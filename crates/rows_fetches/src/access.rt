@@ -36,12 +36,7 @@ pub fn kind_of(line: &[u8]) -> Result<AccessKind, Failed> {
 }
 
 // Shows what a row comes to.
-fn show_row(
-    alloc: Global,
-    kind: AccessKind,
-    row: &Row,
-    shown: &mut Shown,
-) -> Result<(), Failed> {
+fn show_row(alloc: Global, kind: AccessKind, row: &Row, shown: &mut Shown) -> Result<(), Failed> {
     match kind {
         AccessKind::Table => show_table(alloc, row, shown),
         AccessKind::Answer => show_answer(alloc, row, shown),

@@ -58,7 +58,16 @@ fn play_row<S: Share>(
     let held = scenario_of(alloc, line)?;
     let scenario = &held.value;
     let now = scenario.now;
-    let transcript = drive(&OverLink, alloc, scenario, 0, now, share, pass, &mut link.value);
+    let transcript = drive(
+        &OverLink,
+        alloc,
+        scenario,
+        0,
+        now,
+        share,
+        pass,
+        &mut link.value,
+    );
     show_link(&link.value, shown);
     transcripts.push(transcript)?;
     Ok(())
@@ -107,11 +116,7 @@ pub(crate) fn show(
 }
 
 /// Plays rows one after another over one book that nobody has written into yet, 64 of them at most.
-pub fn play_group<R: AllocGlobal>(
-    rt: &R,
-    rows: &[&str],
-    shown: &mut Shown,
-) -> Result<(), Failed> {
+pub fn play_group<R: AllocGlobal>(rt: &R, rows: &[&str], shown: &mut Shown) -> Result<(), Failed> {
     if rows.len() > MOST_ROWS {
         return Err(Failed);
     }

@@ -100,11 +100,7 @@ fn fetch_from(
 }
 
 // Shows what the fetch of a row sends and comes to.
-pub(crate) fn show_fetch(
-    alloc: Global,
-    row: &Row,
-    shown: &mut Shown,
-) -> Result<(), Failed> {
+pub(crate) fn show_fetch(alloc: Global, row: &Row, shown: &mut Shown) -> Result<(), Failed> {
     let table = table_in(alloc, row.text(1))?;
     let client = Held {
         value: client_at(alloc, row.text(2))?,

@@ -120,11 +120,7 @@ fn play_for(
 
 /// Fetches the request of a row over its link and a book of its own, and shows how often the link was asked and failed,
 /// and the text of the fetch.
-pub fn play_request<R: AllocGlobal>(
-    rt: &R,
-    line: &str,
-    shown: &mut Shown,
-) -> Result<(), Failed> {
+pub fn play_request<R: AllocGlobal>(rt: &R, line: &str, shown: &mut Shown) -> Result<(), Failed> {
     let alloc = rt.alloc();
     let mut link = Held {
         value: link_in(alloc, line)?,

@@ -14,7 +14,7 @@ use policy_safelist::{Appended, Guard, guarded_append};
 use rows_shell::{Failed, Row, Shown, list_of, named};
 use std::alloc::Global;
 use value_headers::HeaderList;
-use value_lists::{Extracted, Rule, extract, split_values};
+use value_lists::{Extracted, Rule, extract_values, split_values};
 use value_text::{after_byte, before_byte};
 
 /// Where the list begins in the rows of a kind.
@@ -92,7 +92,7 @@ fn taken(
 ) -> Result<(), Failed> {
     let name = row.text(0);
     if let Ok(rule) = named(&RULES, kind.as_bytes()) {
-        show_extracted(&extract(alloc, list, name, rule)?, shown);
+        show_extracted(&extract_values(alloc, list, name, rule)?, shown);
         return Ok(());
     }
     match kind {

@@ -34,12 +34,7 @@ pub(crate) fn play<R: Threads + Wait + Sync, N: Links>(
 }
 
 // Runs `playaudit` with these words.
-pub(crate) fn audit(
-    alloc: Global,
-    words: &[String],
-    streams: &mut Streams,
-    shown: &mut Shown,
-) {
+pub(crate) fn audit(alloc: Global, words: &[String], streams: &mut Streams, shown: &mut Shown) {
     let status = playaudit(
         alloc,
         words,

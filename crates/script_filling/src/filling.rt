@@ -60,11 +60,7 @@ fn fill_first(
 }
 
 // A header value with its placeholders replaced, of which no more is kept than is needed to normalise and to cut it.
-fn fill_value(
-    alloc: Global,
-    last: Option<&Event>,
-    template: &[u8],
-) -> Result<Bytes, OutOfMemory>
+fn fill_value(alloc: Global, last: Option<&Event>, template: &[u8]) -> Result<Bytes, OutOfMemory>
     ensures { IfOk result (λ text. short.cut_value (trimmed http_whitespace text)
         ≡ short.cut_value (trimmed http_whitespace (filled (value_of (lent_result last.entry)) template.now))) }
 {
@@ -114,11 +110,7 @@ fn cut(alloc: Global, value: Bytes) -> Result<Bytes, OutOfMemory>
 }
 
 // A header, its value filled, normalised and then cut.
-fn filled_pair(
-    alloc: Global,
-    last: Option<&Event>,
-    pair: &Pair,
-) -> Result<Pair, OutOfMemory>
+fn filled_pair(alloc: Global, last: Option<&Event>, pair: &Pair) -> Result<Pair, OutOfMemory>
     ensures { IfOk result (λ filled. filled ≡ short.cut_pair (spec.filled_pair (lent_result last.entry) pair.now)) }
 {
     let value = fill_value(alloc, last, pair.value.as_slice())?;
@@ -130,11 +122,7 @@ fn filled_pair(
 }
 
 // Headers, each with its value filled, normalised and then cut.
-fn filled_pairs(
-    alloc: Global,
-    last: Option<&Event>,
-    pairs: &[Pair],
-) -> Result<Pairs, OutOfMemory>
+fn filled_pairs(alloc: Global, last: Option<&Event>, pairs: &[Pair]) -> Result<Pairs, OutOfMemory>
     ensures { IfOk result
         (λ filled. filled ≡ map short.cut_pair (map (spec.filled_pair (lent_result last.entry)) pairs.now)) }
 {
@@ -168,11 +156,7 @@ fn filled_body(
 /// one would be. Its rest is looked at as it comes, and not kept. A body that gets longer than 65,536 bytes,
 /// which no request has either, stops growing there, and its first 65,537 are handed on. So it is with a URL of more than
 /// 786,432 bytes, which is none.
-pub fn filled_init(
-    alloc: Global,
-    last: Option<&Event>,
-    init: &Init,
-) -> Result<Init, OutOfMemory>
+pub fn filled_init(alloc: Global, last: Option<&Event>, init: &Init) -> Result<Init, OutOfMemory>
     ensures { IfOk result
         (λ filled. filled ≡ short.with_all_cuts (spec.filled_init (lent_result last.entry) init.now)) }
 {

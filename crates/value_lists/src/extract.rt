@@ -134,7 +134,7 @@ fn one(alloc: Global, value: &[u8]) -> Result<Extracted, OutOfMemory>
 /// each value, trimmed, the empty ones skipped, and it is a failure where one is no token. By `Digits` and `Single` the
 /// item is the value, and it is a failure where the name is there twice, and by `Digits` where the value is not one digit
 /// or more.
-pub fn extract(
+pub fn extract_values(
     alloc: Global,
     headers: &HeaderList,
     name: &[u8],

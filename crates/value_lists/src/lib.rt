@@ -4,5 +4,5 @@
 mod extract;
 mod split;
 
-pub use extract::{Extracted, Rule, extract};
+pub use extract::{Extracted, Rule, extract_values};
 pub use split::{split_value, split_values};

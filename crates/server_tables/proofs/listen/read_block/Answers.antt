@@ -52,12 +52,12 @@ returns-then-finds_block-clause-came g c =
       over = λ no. absurd (true≢false no);
       asked_on = subst AskedOn (sym c.in-Ok-extend_from_slice.ensures.items)
           (asked-more bytes (take c.in-Ok.count c.read.new.buf) is.none (omega (
-        arith,
-        length-take c.in-Ok.count c.read.new.buf,
-        c.read.auto.buf,
-        length-take c.min-room.result c.loop-buffer.buffer,
-        c.min-room.ensures,
-      )));
+            arith,
+            length-take c.in-Ok.count c.read.new.buf,
+            c.read.auto.buf,
+            length-take c.min-room.result c.loop-buffer.buffer,
+            c.min-room.ensures,
+          )));
     }
 
 pub loop-buffer-preserved : goal.loop-buffer-preserved
