@@ -10,8 +10,14 @@ longer : (a c d : List ℕ) → a ++ codes "://" ++ c ++ d ≢ codes "*"
 longer a c d = λ is.
     let e : length (a ++ codes "://" ++ c ++ d) ≡ 1 = ap length is in
     let three : length (codes "://") ≡ 3 = refl in
-    omega (arith, e, three, length-append (a ++ codes "://" ++ c) d, length-append (a ++ codes "://") c,
-        length-append a (codes "://"))
+    omega (
+      arith,
+      e,
+      three,
+      length-append (a ++ codes "://" ++ c) d,
+      length-append (a ++ codes "://") c,
+      length-append a (codes "://"),
+    )
 
 no-star-by : (tainted : Bool) (origin : Origin) → cond tainted (codes "null") (serialized origin) ≢ codes "*"
 no-star-by true origin = λ is. let e : 4 ≡ 1 = ap length is in omega (arith, e)

@@ -9,7 +9,7 @@ pub returns : goal.returns
 returns c = c.from_vec.ensures ∙ c.truncate.ensures.items ∙ elim c.match-rest.branch [
   | in-Some+then-len-most w ↦ cut-grown c.args.most (value_of (lent_result c.args.last)) c.args.template.now
       c.loop-rest.text.items (option_map (λ (r : Bor (List ℕ)). r.now) c.loop-rest.rest) c.loop-rest.invariant
-      (omega (arith, w.len.ensures, w.if-len-ge-most.true, c.loop-rest.text.ok.0))
+      (omega (arith, w.len.ensures, w.if-len-most.true, c.loop-rest.text.ok.0))
   | in_default w ↦ cut-whole c.args.most (value_of (lent_result c.args.last)) c.args.template.now c.loop-rest.text.items
       (option_map (λ (r : Bor (List ℕ)). r.now) c.loop-rest.rest) c.loop-rest.invariant
       (ap (option_map (λ (r : Bor (List ℕ)). r.now)) w.in_default.is)
