@@ -92,7 +92,8 @@ fn show_history(history: &History, shown: &mut Shown)
 
 // Two calls on a pass.
 fn note_and_ask(alloc: Global, share: &SoloBook, pass: &mut SoloPass) -> Result<(), Failed>
-    requires { pass.old.calls ≡ 0 }
+    requires calls { pass.old.calls ≡ 0 }
+    requires belongs { pass.old.behind ≡ share.now }
 {
     share.call(alloc, pass, Shared::new(alloc, op_of(alloc, NOTE)?)?)?;
     share.call(alloc, pass, Shared::new(alloc, op_of(alloc, KNOWN)?)?)?;

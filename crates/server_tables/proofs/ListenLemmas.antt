@@ -1,13 +1,13 @@
 -- Bytes that come, and the blocks in them.
 use Rattle.std.proofs.Common.{◌≡◌, ◌∙◌, ap, sym, refl, subst, ℕ, ◌+◌, ◌≤◌, ◌<◌, min, Bool, true, false, ◌||◌, arith}
-use Rattle.std.proofs.Common.{List, ◌++◌, length, length-append, take, drop, Option, Some, None}
+use Rattle.std.proofs.Common.{List, [], ◌++◌, length, length-append, take, drop, Option, Some, None}
 use Rattle.std.proofs.Common.{true≢false, get_or, nat_le, is_some, inl, inr}
-use Rattle.std.proofs.Math.Seq.{take-append_seam}
+use Rattle.std.proofs.Math.Seq.{take-append_seam, take-nil}
 use Rattle.std.proofs.lemmas.Bool.{leb-false, leb-true}
 use Rattle.std.proofs.lemmas.List.{length-take, take-append-drop, take-append-le, take_all, take_min}
 use Rattle.std.proofs.lemmas.List.Folds.{list_any_more}
 use Rattle.std.specs.List.{list_any}
-use Rattle.link_traits.proofs.SourceLemmas.{gave-again}
+use Rattle.link_traits.proofs.SourceLemmas.{gave-again, gave-nothing}
 use Rattle.httparse.specs.Grammar.{print_request, RequestHead}
 use Rattle.link_traits.specs.Counts.{Rose}
 use Rattle.link_traits.specs.Sinks.{SinkTold}
@@ -95,6 +95,19 @@ unread search bytes is all = no-request bytes (λ n. by n (nat_le n search.searc
         ap is_block (take_all n bytes (omega (arith, leb-false n search.searched at, all))
         ∙ sym (take_all search.searched bytes (omega (arith, all))))
         ∙ is.none search.searched (omega arith)
+
+-- before anything was read
+pub nothing-yet : (peer : PeerTold) → Gives peer peer []
+nothing-yet peer = record { gave = gave-nothing peer.source.left; sink = refl }
+
+no-block : (n : ℕ) → is_block (take n []) ≡ false
+no-block n = ap is_block (take-nil n)
+
+pub unsearched : IsSearched (record { searched = 0; begun = false }) []
+unsearched = record { within = omega arith; begun_is = refl; none = λ n few. no-block n }
+
+pub none-yet : IsRead [] None
+none-yet = no-request [] no-block
 
 -- so a piece more has to be asked for
 pub asked-more : (bytes piece : List ℕ) → IsRead bytes None → length piece ≤ most_at_once → AskedOn (bytes ++ piece)

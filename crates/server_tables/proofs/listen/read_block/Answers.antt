@@ -1,9 +1,10 @@
-use Rattle.std.proofs.Common.{◌∙◌, ◌++◌, ◌≤◌, ap, sym, refl, subst, arith, take, length, true≢false, List, None, ℕ}
+use Rattle.std.proofs.Common.{◌∙◌, ◌++◌, ◌≤◌, ap, sym, refl, subst, arith, take, length, true≢false, List, None, [], ℕ}
 use Rattle.std.proofs.lemmas.List.{length-take}
 use Rattle.server_tables.specs.Private.Coming.{Gives, HasBlock, IsSearched}
 use Rattle.link_http1.specs.RequestHeads.{IsRead}
 use Rattle.server_tables.specs.Serving.{AskedOn, most_read, peer_told}
-use Rattle.server_tables.proofs.ListenLemmas.{asked-all, asked-more, grown, unread}
+use Rattle.server_tables.proofs.ListenLemmas.{asked-all, asked-more, grown, none-yet, nothing-yet, unread}
+use Rattle.server_tables.proofs.ListenLemmas.{unsearched}
 use Rattle.server_tables.proofs.listen.read_block.Goals as goal
 
 pub returns-in_default-clause-stopped : goal.returns-in_default-clause-stopped
@@ -92,3 +93,14 @@ loop-buffer-preserved g c =
       none = none;
       asked_on = asked-all c.extend_from_slice.new.self.items none;
     }
+
+pub loop-buffer-init : goal.loop-buffer-init
+loop-buffer-init g c = rw c.requires (record {
+  gives = nothing-yet (peer_told g.P.Source.gives g.P.Sink.takes c.args.peer.now);
+  few = omega arith;
+  searched = unsearched;
+  quiet = refl;
+  all = refl;
+  none = none-yet;
+  asked_on = asked-all [] none-yet;
+})
