@@ -1,0 +1,139 @@
+"""What an entry is to the page: a fetch, or the load of which kind, in which mode, with credentials or not. What the browser
+wrote into the request comes first (Sec-Fetch-Dest, Sec-Fetch-Mode), then the tools' own fields, then the page's HTML; what
+is left is guessed, and each guess is told."""
+from __future__ import annotations
+
+import re
+from dataclasses import dataclass, field
+from typing import Optional
+
+from commands.scenario import origin_of
+from commands.urls import scheme_of
+from recorded.model import Chain, Element, Entry, Html
+
+LOADS = ("audio", "font", "image", "manifest", "script", "style", "video")
+DOCUMENT, FRAME, FETCH = "document", "frame", "fetch"
+DESTINATIONS = {**{kind: kind for kind in LOADS}, "document": DOCUMENT, "iframe": FRAME, "frame": FRAME, "embed": FRAME,
+                "object": FRAME, "empty": FETCH}
+TYPES = {"stylesheet": "style", "css": "style", "image": "image", "font": "font", "script": "script", "xhr": FETCH,
+         "fetch": FETCH, "eventsource": FETCH, "ping": FETCH, "websocket": FETCH, "manifest": "manifest",
+         "document": DOCUMENT, "media": "video"}
+ACCEPTS = (("text/css", "style"), ("image/", "image"), ("application/font", "font"), ("audio/", "audio"), ("video/", "video"),
+           ("application/manifest", "manifest"))
+CONTENTS = (("text/css", "style"), ("image/", "image"), ("font/", "font"), ("application/font", "font"),
+            ("application/x-font", "font"), ("application/vnd.ms-fontobject", "font"), ("audio/", "audio"),
+            ("video/", "video"), ("application/manifest+json", "manifest"), ("text/javascript", "script"),
+            ("application/javascript", "script"), ("application/x-javascript", "script"))
+ENDINGS = {"css": "style", "js": "script", "mjs": "script", "webmanifest": "manifest",
+           **dict.fromkeys(("png", "jpg", "jpeg", "gif", "webp", "svg", "avif", "ico", "bmp"), "image"),
+           **dict.fromkeys(("woff", "woff2", "ttf", "otf", "eot"), "font"),
+           **dict.fromkeys(("mp4", "webm", "ogv", "mov", "m4v"), "video"),
+           **dict.fromkeys(("mp3", "ogg", "oga", "wav", "m4a", "flac", "aac"), "audio")}
+ENDING = re.compile(r"\.([A-Za-z0-9]+)$")
+MODES = ("cors", "no-cors", "same-origin")
+
+
+@dataclass
+class Asked:
+    """How the page asked: `kind` is fetch or a load's, or another word for what is not played. `is_open` says that the
+    recording cannot tell whether credentials went along."""
+
+    kind: str
+    mode: str = "cors"
+    credentials: str = "same-origin"
+    crossorigin: Optional[str] = None
+    element: Optional[Element] = None
+    is_open: bool = False
+    guesses: list[str] = field(default_factory=list)
+
+    @property
+    def is_load(self) -> bool:
+        return self.kind in LOADS
+
+
+def kind_of(entry: Entry, html: Optional[Html]) -> tuple[str, Optional[str]]:
+    """What an entry is, and a guess's reason; None where it is no guess."""
+    if scheme_of(entry.url) in ("ws", "wss"):
+        return FETCH, None
+    destination = (entry.asked("Sec-Fetch-Dest") or "").lower()
+    if destination:
+        return DESTINATIONS.get(destination, destination), None
+    if entry.resource_type:
+        return of_type(entry), None
+    if html and entry.bare_url in html.frames:
+        return FRAME, None
+    if html and entry.bare_url in html.elements:
+        return html.elements[entry.bare_url].kind, None
+    return guessed(entry)
+
+
+def of_type(entry: Entry) -> str:
+    """By the tools' own field. What they call other is mostly the page's icon."""
+    kind = TYPES.get(entry.resource_type)
+    is_sound = kind == "video" and (entry.answered("Content-Type") or "").startswith("audio/")
+    return "audio" if is_sound else kind or (guessed(entry)[0] if entry.resource_type == "other" else entry.resource_type)
+
+
+def guessed(entry: Entry) -> tuple[str, str]:
+    accept = (entry.asked("Accept") or "").lower()
+    if accept.startswith("text/html") and entry.method in ("GET", "POST"):
+        return DOCUMENT, "Accept"
+    if is_scripted(entry):
+        return FETCH, "its method or headers, which elements do not send"
+    found = next((kind for start, kind in ACCEPTS if accept.startswith(start)), None)
+    if found:
+        return found, "Accept"
+    content = (entry.answered("Content-Type") or "").lower()
+    found = next((kind for start, kind in CONTENTS if content.startswith(start)), None)
+    if found:
+        return found, "the type of its answer"
+    ending = ENDING.search(entry.bare_url.partition("?")[0])
+    kind = ENDINGS.get(ending.group(1).lower()) if ending else None
+    return (kind, "the end of its name") if kind else (FETCH, "nothing that says otherwise")
+
+
+def is_scripted(entry: Entry) -> bool:
+    return entry.method not in ("GET", "HEAD") or entry.method == "HEAD" or entry.asked("X-Requested-With") is not None
+
+
+def asked_of(chain: Chain, page_url: str, html: Optional[Html]) -> Asked:
+    """How the page asked for the beginning of a chain."""
+    entry = chain.first
+    kind, reason = kind_of(entry, html)
+    if chain.preflights or entry.method != "GET" and kind in LOADS:  # which no element sends
+        kind, reason = FETCH, None
+    guesses = [f"that it is a {kind}, by {reason}"] if reason else []
+    element = html.elements.get(entry.bare_url) if html else None
+    element = element if element and element.kind == kind else None
+    mode = (entry.asked("Sec-Fetch-Mode") or "").lower()
+    if kind in LOADS:
+        return of_load(chain, Asked(kind, element=element, guesses=guesses), mode, page_url)
+    return of_fetch(chain, Asked(kind, guesses=guesses), mode, page_url)
+
+
+def of_load(chain: Chain, asked: Asked, mode: str, page_url: str) -> Asked:
+    is_cors = asked.kind in ("font", "manifest")
+    entry = chain.first
+    if asked.element and asked.element.crossorigin:
+        asked.crossorigin = asked.element.crossorigin
+    elif not is_cors and (mode == "cors" or not mode and entry.asked("Origin") is not None):
+        is_foreign = entry.origin != origin_of(page_url)
+        asked.crossorigin = "use-credentials" if entry.has_cookies and is_foreign else "anonymous"
+        if not entry.has_cookies and is_foreign:
+            asked.guesses.append("that it is asked without credentials, since no cookie went along")
+            asked.is_open = True
+    asked.mode = "cors" if is_cors or asked.crossorigin else "no-cors"
+    asked.credentials = "same-origin" if asked.mode == "cors" and asked.crossorigin != "use-credentials" else "include"
+    return asked
+
+
+def of_fetch(chain: Chain, asked: Asked, mode: str, page_url: str) -> Asked:
+    entry = chain.first
+    asked.mode = mode if mode in MODES else "no-cors" if entry.resource_type == "ping" else "cors"
+    foreign = [hop for hop in chain.hops if hop.origin != origin_of(page_url)]
+    if any(hop.has_cookies for hop in foreign) or asked.mode == "no-cors":
+        asked.credentials = "include"
+    elif foreign and asked.kind == FETCH:
+        asked.is_open = True
+        asked.guesses.append("that it is asked without credentials, since no cookie went along")
+    return asked

@@ -1,0 +1,53 @@
+"""Which hosts are known to want https (HSTS) by the recording's own answers, at the beginning of a page."""
+from __future__ import annotations
+
+from collections import namedtuple
+from typing import Any, Optional
+
+from commands.lints import hsts as field_of
+from commands.urls import host_of, is_address
+from recorded.model import Entry
+
+Known = namedtuple("Known", "host subdomains until")
+Field = namedtuple("Field", "value")
+LATEST = 2 ** 48 - 1
+LONGEST = 2 ** 32 - 1  # seconds of a max-age that count
+HEADER = "strict-transport-security"
+
+
+def noted(entry: Entry) -> Optional[Known]:
+    """What an answer makes known, until a time in seconds; None where it makes nothing known."""
+    value = next((value for name, value in entry.got if name.lower() == HEADER), None)  # RFC 6797, section 8.1: the first
+    host = host_of(entry.url)
+    if value is None or not entry.url.startswith("https:") or is_address(host) or not host:
+        return None
+    field = Field(value)
+    names, age = field_of.names(field), field_of.seconds(field)
+    is_ignored = not field_of.fits(field) or len(set(names)) < len(names) or field_of.subdomains_value(field)
+    if is_ignored or age is None:
+        return None
+    return Known(host, "includesubdomains" in names, (entry.started or 0) + min(age, LONGEST))
+
+
+class Book:
+    """The known hosts as answers come, in the order of their requests."""
+
+    def __init__(self) -> None:
+        self.hosts: dict[str, Known] = {}
+
+    def add(self, entry: Entry) -> None:
+        known = noted(entry)
+        if known:
+            self.hosts[known.host] = known
+
+    def at(self, time: Optional[float]) -> list[dict[str, Any]]:
+        """Those that are known at a time, as a scenario has them, whose clock begins at 0."""
+        left = [(known, int(known.until - (time or 0))) for known in self.hosts.values()]
+        return [{"host": known.host, "subdomains": known.subdomains, "until": min(until, LATEST)}
+                for known, until in left if until > 0 and is_domain(known.host)]
+
+
+def is_domain(host: str) -> bool:
+    """Whether a scenario takes the host as a known one."""
+    return bool(host) and not is_address(host) and host == host.lower() and host != "localhost" \
+        and not host.endswith(".localhost")

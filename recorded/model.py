@@ -1,0 +1,184 @@
+"""What a recording is, as data: entries, the chains of redirects that they make, and the pages whose loads and fetches
+these are. Functions of the other modules make it, ask it, and change nothing in it."""
+from __future__ import annotations
+
+import base64
+import binascii
+import re
+from dataclasses import dataclass, field
+from typing import Any, Optional
+
+from commands.scenario import origin_of
+
+CHARSET = re.compile(r"charset=\"?([\w.:-]+)", re.I)
+
+
+@dataclass
+class Entry:
+    """One request of the recording with its answer. `status` is 0 where there is no answer, and `error` what the browser
+    called the failure, or an empty text."""
+
+    number: int
+    page: Optional[str]
+    started: Optional[float]
+    method: str
+    url: str
+    sent: list[tuple[str, str]]
+    status: int
+    got: list[tuple[str, str]]
+    content: dict[str, Any] = field(default_factory=dict)
+    error: str = ""
+    resource_type: str = ""
+    initiator: str = ""
+    redirect: str = ""
+    has_cookies: bool = False
+    is_from_cache: bool = False
+    is_from_worker: bool = False
+
+    def asked(self, name: str) -> Optional[str]:
+        """The value of a request's header."""
+        return joined_values(self.sent, name)
+
+    def answered(self, name: str) -> Optional[str]:
+        """The value of a header of the answer."""
+        return joined_values(self.got, name)
+
+    @property
+    def origin(self) -> Optional[str]:
+        return origin_of(self.url)
+
+    @property
+    def bare_url(self) -> str:
+        return self.url.partition("#")[0]
+
+    @property
+    def is_hidden(self) -> bool:
+        """Whether nothing of an answer is recorded."""
+        return self.status == 0
+
+    @property
+    def is_failed(self) -> bool:
+        return self.is_hidden or bool(self.error)
+
+    @property
+    def is_preflight(self) -> bool:
+        return self.method == "OPTIONS" and (self.asked("Access-Control-Request-Method") is not None
+                                             or self.resource_type == "preflight")
+
+    @property
+    def is_internal_redirect(self) -> bool:
+        """Whether the browser made this answer itself, since the host is a known one."""
+        return self.status == 307 and self.answered("Non-Authoritative-Reason") is not None
+
+    @property
+    def has_all_headers(self) -> bool:
+        """Whether the request's headers are those that went out, and not a part of them."""
+        return self.asked("User-Agent") is not None
+
+    @property
+    def body(self) -> Optional[bytes]:
+        """The body's bytes, decoded from what was sent; None where they are not recorded whole."""
+        text, size = self.content.get("text"), self.content.get("size")
+        if not isinstance(text, str):
+            return None
+        if self.content.get("encoding") == "base64":
+            try:
+                data = base64.b64decode(text, validate=True)
+            except (binascii.Error, ValueError):
+                return None
+        else:
+            data = text.encode("utf-8", "replace")
+        is_cut = isinstance(size, int) and size > len(data) and not self.is_in_another_charset
+        return None if is_cut or (not data and self.content.get("comment")) else data
+
+    @property
+    def is_in_another_charset(self) -> bool:
+        found = CHARSET.search(self.answered("Content-Type") or "")
+        return found is not None and found.group(1).lower() not in ("utf-8", "utf8", "us-ascii")
+
+    @property
+    def is_body_exact(self) -> bool:
+        """Whether the body's bytes are surely those that came: a text may have been decoded."""
+        return self.content.get("encoding") == "base64" or str(self.content.get("text", "")).isascii()
+
+
+@dataclass(frozen=True)
+class Element:
+    """What the page's HTML says of a URL that it loads."""
+
+    kind: str
+    url: str
+    crossorigin: Optional[str] = None
+    integrity: str = ""
+    nonce: str = ""
+    referrer_policy: str = ""
+
+
+@dataclass
+class Html:
+    """What is read from the page's own body: policies of its `meta` elements, and the elements that load."""
+
+    policies: list[str] = field(default_factory=list)
+    referrer_policy: str = ""
+    elements: dict[str, Element] = field(default_factory=dict)
+    frames: set[str] = field(default_factory=set)
+
+
+@dataclass
+class Chain:
+    """A request with the redirects behind it, and the preflights of its hops by their number. `url` is as the page asked:
+    an upgrade may lie between it and the first hop."""
+
+    hops: list[Entry]
+    preflights: dict[int, Entry] = field(default_factory=dict)
+    url: str = ""
+    is_known_host: bool = False  # the browser upgraded the URL, since the host was a known one
+    is_lone_preflight: bool = False  # the request that the preflight asks for is not recorded
+
+    @property
+    def first(self) -> Entry:
+        return self.hops[0]
+
+    @property
+    def last(self) -> Entry:
+        return self.hops[-1]
+
+    @property
+    def entries(self) -> list[Entry]:
+        return [*self.hops, *self.preflights.values()]
+
+
+@dataclass
+class Page:
+    """A document, and what it asked for. `entry` is the answer that it came with, where it is recorded; `top` the URL of
+    the page at the top, where it is a frame."""
+
+    url: str
+    entry: Optional[Entry] = None
+    top: Optional[str] = None
+    html: Optional[Html] = None
+    chains: list[Chain] = field(default_factory=list)
+    left_out: list[tuple[Entry, str]] = field(default_factory=list)
+    hsts: list[dict[str, Any]] = field(default_factory=list)
+    notes: list[str] = field(default_factory=list)
+
+    @property
+    def origin(self) -> str:
+        return origin_of(self.url) or ""
+
+
+@dataclass
+class Recording:
+    """All of it. `bad` are entries that could not be read, each with a sentence that says why."""
+
+    browser: str  # chromium, firefox, or an empty text
+    creator: str
+    count: int
+    pages: list[Page] = field(default_factory=list)
+    bad: list[tuple[int, str]] = field(default_factory=list)
+    notes: list[str] = field(default_factory=list)
+
+
+def joined_values(headers: list[tuple[str, str]], name: str) -> Optional[str]:
+    values = [value for own, value in headers if own.lower() == name.lower()]
+    return ", ".join(values) if values else None

@@ -1,0 +1,144 @@
+"""Makes pages of entries: each document is one, with the loads and fetches that are its own. A frame is one, too."""
+from __future__ import annotations
+
+from typing import Optional
+
+from commands.scenario import origin_of
+from commands.urls import host_of, scheme_of
+from recorded import elements, kinds
+from recorded.chains import chains_of
+from recorded.known_hosts import Book, is_domain
+from recorded.model import Chain, Entry, Page, Recording
+
+LOADED = ("http", "https", "data", "blob", "ws", "wss")
+UNKNOWN = "the page's own answer is not recorded, so its policies are not known"
+NOT_PLAYED = {
+    kinds.FRAME: "the navigation of a frame, which is not played",
+    kinds.DOCUMENT: "a navigation, which is not played",
+}
+
+
+def add(recording: Recording, titles: dict[str, str], entries: list[Entry]) -> None:
+    """Adds the pages of a recording's entries, each behind those before it."""
+    groups: dict[Optional[str], list[Entry]] = {}
+    last: Optional[str] = None
+    for entry in entries:
+        last = entry.page if entry.page is not None else last
+        groups.setdefault(last, []).append(entry)
+    for name, own in groups.items():
+        group = Group(titles.get(name or "", ""))
+        for chain in chains_of(own):
+            group.take(chain)
+        recording.pages += [page for page in group.pages if page.entry or page.chains or page.left_out]
+    add_known_hosts(recording.pages, entries)
+
+
+class Group:
+    """The documents of one page of the recording, and what is theirs."""
+
+    def __init__(self, title: str):
+        self.title = title if origin_of(title) else ""
+        self.pages: list[Page] = []
+        self.top: Optional[Page] = None
+
+    def take(self, chain: Chain) -> None:
+        """Takes the next chain: a document of its own, or what one of the documents asked for."""
+        page = self.owner_of(chain.first) if self.pages else None
+        kind, _ = kinds.kind_of(chain.first, page.html if page else None)
+        is_frame = kind == kinds.FRAME or (kind == kinds.DOCUMENT and self.top is not None and is_within(chain.first))
+        if self.is_document(chain, kind) and not is_frame:
+            self.top = self.add(document_of(chain))
+            return
+        page = page or self.unrecorded(chain.first)
+        if is_frame and origin_of(chain.last.url):
+            self.add(document_of(chain, page.top or page.url))
+            page.left_out.append((chain.first, NOT_PLAYED[kinds.FRAME]))
+        elif kind in (*kinds.LOADS, kinds.FETCH) and scheme_of(chain.url) in LOADED:
+            page.chains.append(chain)
+        else:
+            page.left_out.append((chain.first, NOT_PLAYED.get(kind) or self.why_left(chain, kind)))
+
+    def is_document(self, chain: Chain, kind: str) -> bool:
+        """Whether a chain is the page itself; where nothing says what it is, the first that is the page's URL or HTML."""
+        if not origin_of(chain.last.url):
+            return False
+        is_html = (chain.last.answered("Content-Type") or "").lower().startswith("text/html")
+        is_first = self.top is None and chain.first.asked("Sec-Fetch-Dest") is None and not chain.first.resource_type
+        is_own = self.title.partition("#")[0] in [hop.bare_url for hop in chain.hops]
+        return kind == kinds.DOCUMENT or (is_first and chain.first.method == "GET" and (is_own or is_html))
+
+    @staticmethod
+    def why_left(chain: Chain, kind: str) -> str:
+        if scheme_of(chain.url) not in LOADED:
+            return f"a URL of the scheme {scheme_of(chain.url)}, which no page is asked for here"
+        return f"what is loaded as {kind} is not played"
+
+    def add(self, page: Page) -> Page:
+        self.pages.append(page)
+        return page
+
+    def unrecorded(self, entry: Entry) -> Page:
+        """A page whose own answer is not recorded: by the title, or as the request names it."""
+        named = [self.title, entry.asked("Referer") or "", (entry.asked("Origin") or "") + "/"]
+        url = next((one for one in named if origin_of(one)), None)
+        page = Page(url or f"{entry.origin or 'https://unknown.invalid'}/", notes=[UNKNOWN])
+        if url is None:
+            page.notes.append("nothing says which page asked: it is taken to be of the first URL's origin")
+        self.top = self.top or page
+        return self.add(page)
+
+    def owner_of(self, entry: Entry) -> Page:
+        """The document that asked: that of the Referer or of the initiator, else one of the origin that the request
+        names, else the last one at the top."""
+        referer = (entry.asked("Referer") or "").partition("#")[0]
+        for page in reversed(self.pages):
+            if page.url.partition("#")[0] in (referer, entry.initiator):
+                return page
+        origin = entry.origin if entry.asked("Sec-Fetch-Site") == "same-origin" else \
+            origin_of(entry.asked("Origin") or "") or origin_of(referer)
+        top = self.top or self.pages[-1]
+        frames = [page for page in self.pages if page.top == top.url]
+        return next((page for page in [top, *reversed(frames)] if page.origin == origin), top)
+
+
+def is_within(entry: Entry) -> bool:
+    """Whether a document that is asked for while a page is there is a frame of it, as Chromium's tools tell its kind."""
+    return entry.asked("Sec-Fetch-Dest") is None and entry.resource_type == kinds.DOCUMENT
+
+
+def document_of(chain: Chain, top: Optional[str] = None) -> Page:
+    entry = chain.last
+    page = Page(entry.bare_url, entry, top, elements.read(entry.body, entry.bare_url))
+    if entry.is_hidden:
+        page.notes.append(UNKNOWN)
+    elif page.html is None:
+        page.notes.append("the page's body is not recorded: policies of its meta elements, nonces and integrity texts are "
+                          "not known")
+    return page
+
+
+def add_known_hosts(pages: list[Page], entries: list[Entry]) -> None:
+    """Gives each page the hosts that were known when it began, its own answer's among them; and those that the
+    browser itself upgraded."""
+    book, left = Book(), iter(entries)
+    seen: set[int] = set()
+    for page in pages:
+        begin = page.entry.number if page.entry else page.chains[0].first.number if page.chains else None
+        while begin is not None and begin not in seen:
+            entry = next(left, None)
+            if entry is None:
+                break
+            seen.add(entry.number)
+            book.add(entry)
+        page.hsts = book.at(page.entry.started if page.entry else None)
+        add_upgraded(page)
+
+
+def add_upgraded(page: Page) -> None:
+    known = {one["host"] for one in page.hsts}
+    for chain in page.chains:
+        host = host_of(chain.url)
+        if chain.is_known_host and host not in known and is_domain(host):
+            known.add(host)
+            page.hsts.append({"host": host, "subdomains": False, "until": 2 ** 48 - 1})
+            page.notes.append(f"{host} was a known host (HSTS) before the recording: the browser upgraded it itself")

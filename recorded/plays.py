@@ -1,0 +1,78 @@
+"""Plays the scenarios of a page: what each of its commands comes to. What no scenario can have costs its command alone."""
+from __future__ import annotations
+
+import json
+import re
+from dataclasses import dataclass, field
+from typing import Any, Optional
+
+from commands import play_text, running, told
+from commands.case import Case
+from commands.scenario import Scenario
+from recorded.changes import NONE, Changes
+from recorded.scenarios import PASSING, Layer, Part, Supposed, layers_of
+
+COMMAND = re.compile(r"/documents/0/script/(\d+)(?:/.*)?")
+SERVER = re.compile(r"/servers/(\d+)(?:/origin|/rules/(\d+).*)?")
+HOST = re.compile(r"/hsts/(\d+).*")
+MOST_TRIES = 12
+NO_SCENARIO = "no scenario can have it, at %s"
+MANY_ANSWERS = "its URL was answered in more ways than are played"
+
+
+@dataclass
+class Played:
+    """What the commands of a part came to, by their numbers; `problems` says of the others why they were not played."""
+
+    cases: dict[int, Case] = field(default_factory=dict)
+    problems: dict[int, str] = field(default_factory=dict)
+
+
+def played(part: Part, supposed: Supposed = PASSING, changes: Changes = NONE) -> Played:
+    layers, left = layers_of(part, supposed, changes)
+    found = Played(problems={number: MANY_ANSWERS for number in left})
+    for layer in layers:
+        play_layer(layer, found)
+    return found
+
+
+def play_layer(layer: Layer, found: Played) -> None:
+    """Plays a scenario, without what is refused in it."""
+    data = layer.data
+    numbers = list(range(sum("wait" not in one for one in data["documents"][0]["script"])))
+    for _ in range(MOST_TRIES):
+        try:
+            cases = cases_of(data)
+        except running.Refused as refused:
+            number = without(data, refused.place, numbers)
+            if number is None:
+                break
+            found.problems.setdefault(number, NO_SCENARIO % refused.place)
+            continue
+        found.cases.update({number: case for number, case in zip(numbers, cases) if number in layer.own})
+        return
+    for number in layer.own:
+        found.problems.setdefault(number, "its page is none that a scenario can have")
+
+
+def cases_of(data: dict[str, Any]) -> list[Case]:
+    play = play_text.read(running.played(json.dumps(data).encode("ascii")))
+    return told.scripted(Scenario(None, data), play).cases
+
+
+def without(data: dict[str, Any], place: str, numbers: list[int]) -> Optional[int]:
+    """Takes out what is refused at a place. The number of the command that went, -1 of something else, None where nothing can
+    go."""
+    command, server, host = COMMAND.fullmatch(place), SERVER.fullmatch(place), HOST.fullmatch(place)
+    if command:
+        script, at = data["documents"][0]["script"], int(command.group(1))
+        index = sum("wait" not in one for one in script[:at])
+        del script[at]
+        return numbers.pop(index)
+    if server and server.group(2):
+        del data["servers"][int(server.group(1))]["rules"][int(server.group(2))]
+    elif server:
+        del data["servers"][int(server.group(1))]
+    elif host:
+        del data["hsts"][int(host.group(1))]
+    return -1 if server or host else None
