@@ -9,7 +9,7 @@ from typing import Any
 
 from commands.csp import HEADERS as POLICIES
 from commands.urls import host_of, secure
-from recorded.known_hosts import LATEST
+from recorded.known_hosts import LATEST, is_known
 
 Pairs = list[tuple[str, str]]
 UPGRADE = "upgrade-insecure-requests"
@@ -81,9 +81,7 @@ class Changes:
 
     def page_url(self, url: str) -> str:
         """Where the page itself is, should its host be a known one now."""
-        host = host_of(url)
-        is_known = any(host == one or below and host.endswith("." + one) for one, below in self.hsts)
-        return secure(url) if is_known and url.startswith("http:") else url
+        return secure(url) if url.startswith("http:") and is_known(host_of(url), self.known_hosts()) else url
 
     def known_hosts(self) -> list[dict[str, Any]]:
         return [{"host": host, "subdomains": below, "until": LATEST} for host, below in self.hsts]

@@ -31,6 +31,7 @@ ENDINGS = {"css": "style", "js": "script", "mjs": "script", "webmanifest": "mani
            **dict.fromkeys(("mp3", "ogg", "oga", "wav", "m4a", "flac", "aac"), "audio")}
 ENDING = re.compile(r"\.([A-Za-z0-9]+)$")
 MODES = ("cors", "no-cors", "same-origin")
+WITHOUT = "that it is asked without credentials, since no cookie went along"
 
 
 @dataclass
@@ -45,6 +46,10 @@ class Asked:
     element: Optional[Element] = None
     is_open: bool = False
     guesses: list[str] = field(default_factory=list)
+
+    @property
+    def all_guesses(self) -> list[str]:
+        return self.guesses + ([WITHOUT] if self.is_open else [])
 
     @property
     def is_load(self) -> bool:
@@ -119,9 +124,7 @@ def of_load(chain: Chain, asked: Asked, mode: str, page_url: str) -> Asked:
     elif not is_cors and (mode == "cors" or not mode and entry.asked("Origin") is not None):
         is_foreign = entry.origin != origin_of(page_url)
         asked.crossorigin = "use-credentials" if entry.has_cookies and is_foreign else "anonymous"
-        if not entry.has_cookies and is_foreign:
-            asked.guesses.append("that it is asked without credentials, since no cookie went along")
-            asked.is_open = True
+        asked.is_open = not entry.has_cookies and is_foreign
     asked.mode = "cors" if is_cors or asked.crossorigin else "no-cors"
     asked.credentials = "same-origin" if asked.mode == "cors" and asked.crossorigin != "use-credentials" else "include"
     return asked
@@ -135,5 +138,4 @@ def of_fetch(chain: Chain, asked: Asked, mode: str, page_url: str) -> Asked:
         asked.credentials = "include"
     elif foreign and asked.kind == FETCH:
         asked.is_open = True
-        asked.guesses.append("that it is asked without credentials, since no cookie went along")
     return asked

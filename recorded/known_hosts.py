@@ -47,6 +47,11 @@ class Book:
                 for known, until in left if until > 0 and is_domain(known.host)]
 
 
+def is_known(host: str, hosts: list[dict[str, Any]]) -> bool:
+    """Whether a name is one of these hosts, or below one that has its subdomains with it."""
+    return any(host == one["host"] or one["subdomains"] and host.endswith("." + one["host"]) for one in hosts)
+
+
 def is_domain(host: str) -> bool:
     """Whether a scenario takes the host as a known one."""
     return bool(host) and not is_address(host) and host == host.lower() and host != "localhost" \

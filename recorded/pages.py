@@ -7,7 +7,7 @@ from commands.scenario import origin_of
 from commands.urls import host_of, scheme_of
 from recorded import elements, kinds
 from recorded.chains import chains_of
-from recorded.known_hosts import Book, is_domain
+from recorded.known_hosts import LATEST, Book, is_domain, is_known
 from recorded.model import Chain, Entry, Page, Recording
 
 LOADED = ("http", "https", "data", "blob", "ws", "wss")
@@ -135,10 +135,12 @@ def add_known_hosts(pages: list[Page], entries: list[Entry]) -> None:
 
 
 def add_upgraded(page: Page) -> None:
-    known = {one["host"] for one in page.hsts}
+    """The hosts that the browser took for known ones, which no answer before has made known."""
+    book = Book()
     for chain in page.chains:
         host = host_of(chain.url)
-        if chain.is_known_host and host not in known and is_domain(host):
-            known.add(host)
-            page.hsts.append({"host": host, "subdomains": False, "until": 2 ** 48 - 1})
+        if chain.is_known_host and is_domain(host) and not is_known(host, page.hsts + book.at(chain.first.started)):
+            page.hsts.append({"host": host, "subdomains": False, "until": LATEST})
             page.notes.append(f"{host} was a known host (HSTS) before the recording: the browser upgraded it itself")
+        for entry in chain.entries:
+            book.add(entry)

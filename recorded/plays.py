@@ -47,7 +47,8 @@ def play_layer(layer: Layer, found: Played) -> None:
             number = without(data, refused.place, numbers)
             if number is None:
                 break
-            found.problems.setdefault(number, NO_SCENARIO % refused.place)
+            if number >= 0:
+                found.problems.setdefault(number, NO_SCENARIO % refused.place)
             continue
         found.cases.update({number: case for number, case in zip(numbers, cases) if number in layer.own})
         return

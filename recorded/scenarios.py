@@ -10,7 +10,7 @@ from dataclasses import dataclass, field
 from typing import Any, Iterator
 from urllib.parse import quote, urlsplit
 
-from commands import csp
+from commands import csp, guards
 from commands.case import REDIRECTS
 from commands.policy_questions import PLAIN as PLAIN_ORIGIN
 from commands.scenario import origin_of
@@ -111,7 +111,7 @@ def rules_of(command: Command, page: Page, supposed: Supposed, changes: Changes)
         passing = passing_headers(origin_at(chain, number, origin_of(changes.page_url(page.url)) or ""))
         rule = rule_of(hop, passing + [("Content-Type", TYPES[command.kind])], supposed)
         found[key_of(hop.url, hop.method)] = rule if hop is not chain.last or not command.body else {**rule, "body": command.body}
-        if not command.asked.is_load and hop.method != "OPTIONS":
+        if is_preflightable(command, number):
             found[key_of(hop.url, "OPTIONS")] = preflight_rule(command, number, passing, supposed)
     if changes.headers:
         for (origin, _, target), rule in found.items():
@@ -120,6 +120,13 @@ def rules_of(command: Command, page: Page, supposed: Supposed, changes: Changes)
         for (origin, method, target), rule in list(found.items()):
             found.setdefault((secure(origin), method, target), rule)
     return found
+
+
+def is_preflightable(command: Command, number: int) -> bool:
+    """Whether the request of a hop may have a preflight: one was recorded, or its method or a header asks for one."""
+    headers = [tuple(pair) for pair in command.options.get("headers", [])]
+    return number in command.chain.preflights or not command.asked.is_load and (
+        command.chain.hops[number].method not in (*guards.SAFELISTED_METHODS, "OPTIONS") or bool(guards.unsafe_names(headers)))
 
 
 def rule_of(hop: Entry, passing: list[tuple[str, str]], supposed: Supposed) -> dict[str, Any]:

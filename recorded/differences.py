@@ -1,0 +1,125 @@
+"""What changes would change: the same requests are played with them, and what comes otherwise is told, largest group first."""
+from __future__ import annotations
+
+from typing import Any, Iterator, Optional
+
+from commands import findings
+from commands.case import Case
+from commands.results import NETWORK_ERRORS
+from commands.urls import host_of
+from recorded import verdicts
+from recorded.changes import Changes
+from recorded.model import Page
+from recorded.plays import Played, played
+from recorded.scenarios import Part, Supposed
+from recorded.verdicts import Finding
+
+BROKEN, WITH, MENDED, REPORTED, UPGRADED = "broken", "goes with it", "mended", "reported", "upgraded"
+ORDER = (BROKEN, WITH, REPORTED, MENDED, UPGRADED)
+WORKED = (verdicts.PASSED,)
+DID_NOT = (verdicts.REFUSED, verdicts.UNREACHED)
+Judged = list[tuple[Page, list[tuple[Part, list[Finding]]]]]
+
+
+def of_pages(judged: Judged, changes: Changes) -> dict[str, Any]:
+    """All differences, and the groups that they make."""
+    found = [one for number, (page, parts) in enumerate(judged) for one in of_page(number, page, parts, changes)]
+    return {"differences": found, "groups": groups_of(found),
+            "moved": [{"from": page.url, "to": changes.page_url(page.url)} for page, _ in judged
+                      if changes.page_url(page.url) != page.url]}
+
+
+def of_page(number: int, page: Page, parts: list[tuple[Part, list[Finding]]], changes: Changes) -> list[dict[str, Any]]:
+    found, all_findings = [], []
+    for part, own in parts:
+        all_findings += own
+        after: dict[Supposed, Played] = {}
+        for index, finding in enumerate(own):
+            if finding.case is None:
+                continue
+            if finding.supposed not in after:
+                after[finding.supposed] = played(part, finding.supposed, changes)
+            case = after[finding.supposed].cases.get(index)
+            if case is not None:
+                found += [{"page": number, **one} for one in of_command(finding, case)]
+    return found + [{"page": number, **one} for one in gone_with(found, all_findings)]
+
+
+def of_command(finding: Finding, after: Case) -> Iterator[dict[str, Any]]:
+    """What is otherwise of one request."""
+    was, is_now = verdicts.is_refused(finding.case, finding.command), verdicts.is_refused(after, finding.command)
+    if finding.verdict in WORKED and is_now:
+        yield difference(BROKEN, finding, after)
+    elif finding.verdict in DID_NOT and was and not is_now:
+        yield difference(MENDED, finding, finding.case, "" if not verdicts.is_unanswered(after) else
+                         f"{after.asked_url} is asked then, of which no answer is recorded")
+    before = {(one.policy, one.directive) for one in finding.case.fetch.of("violation") if not one.enforced}
+    told = {one.directive: one for one in after.fetch.of("violation")
+            if not one.enforced and (one.policy, one.directive) not in before}
+    for directive in told if finding.verdict in WORKED else ():
+        yield difference(REPORTED, finding, after, directive=directive)
+    urls = [url for url in findings.upgrades(after) if url not in findings.upgrades(finding.case)]
+    if urls and finding.verdict in WORKED and not is_now:
+        yield difference(UPGRADED, finding, after, f"{urls[0]} is asked then: whether it answers is not recorded")
+
+
+def difference(kind: str, finding: Finding, case: Case, told: str = "", directive: str = "") -> dict[str, Any]:
+    """One of them; `case` is the refused one, before or after."""
+    explanation = case.explanation if kind in (BROKEN, MENDED) else None
+    return {"kind": kind, "entry": finding.chain.first.number, "method": finding.chain.first.method, "url": finding.chain.url,
+            "load": finding.command.kind, "directive": directive or directive_of(case, kind),
+            "host": host_of(case.url) or finding.chain.url.partition(":")[0] + ":",
+            "why": explanation.condition if explanation else "", "way": explanation.way if explanation else "",
+            "told": told, "guesses": finding.command.asked.guesses}
+
+
+def directive_of(case: Case, kind: str) -> str:
+    """The directive that decides, or the name of the result."""
+    if kind == UPGRADED:
+        return "https"
+    refusing = next((one for one in case.violations if one.enforced), None)
+    number = case.result.number
+    is_by_policy = refusing is not None and (number in (4, 19) or case.verdict == "none")
+    return case.of_violation(refusing).directive[0] if is_by_policy else NETWORK_ERRORS[number - 1] if number else ""
+
+
+def gone_with(found: list[dict[str, Any]], all_findings: list[Finding]) -> list[dict[str, Any]]:
+    """What is not asked any more, since what asked for it is refused: by the initiator, or the Referer of a style."""
+    broken = {one["entry"] for one in found if one["kind"] == BROKEN}
+    urls = {one["url"].partition("#")[0]: one["entry"] for one in found if one["kind"] == BROKEN and one["load"] in ("script", "style")}
+    gone: list[dict[str, Any]] = []
+    is_more = bool(urls)
+    while is_more:
+        is_more = False
+        for finding in all_findings:
+            entry = finding.chain.first
+            cause = next((urls[url] for url in askers(finding) if url in urls), None)
+            if cause is None or entry.number in broken or finding.verdict not in WORKED:
+                continue
+            broken.add(entry.number)
+            gone.append({**difference(WITH, finding, finding.case), "cause": cause})
+            if finding.command.kind in ("script", "style"):
+                urls[finding.chain.url] = entry.number
+                is_more = True
+    return gone
+
+
+def askers(finding: Finding) -> list[str]:
+    """The URLs of what may have asked: a script, or a style that its Referer names."""
+    entry = finding.chain.first
+    return [url.partition("#")[0] for url in (entry.initiator, entry.asked("Referer") or "") if url]
+
+
+def groups_of(found: list[dict[str, Any]]) -> list[dict[str, Any]]:
+    """By kind, directive and host, the largest first."""
+    groups: dict[tuple[str, str, str], list[int]] = {}
+    for place, one in enumerate(found):
+        groups.setdefault((one["kind"], one["directive"], one["host"]), []).append(place)
+    listed = [{"kind": kind, "directive": directive, "host": host, "count": len(places), "differences": places}
+              for (kind, directive, host), places in groups.items()]
+    return sorted(listed, key=lambda one: (ORDER.index(one["kind"]), -one["count"], one["directive"], one["host"]))
+
+
+def breaks(found: dict[str, Any]) -> bool:
+    """Whether something breaks that has worked."""
+    return any(one["kind"] == BROKEN for one in found.get("differences", []))

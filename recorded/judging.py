@@ -1,0 +1,87 @@
+"""Judges a recording: plays each page, and says what came of each request and why. `judge` is a pure function of a recording
+and changes, so it can be mapped over many."""
+from __future__ import annotations
+
+from collections import Counter
+from typing import Any
+
+from recorded import differences, parts as parting, verdicts
+from recorded.changes import NONE, Changes
+from recorded.model import Page, Recording
+from recorded.plays import Played, played
+from recorded.scenarios import Part, count_of, parts_of
+from recorded.verdicts import BARE, OTHER, Cases, Finding
+
+WORDS = (("refused", "refused"), ("unreached", "that look like a success and never reached the page"), ("failed", "failed"),
+         ("open", "open"), ("parted", "where the recording and the standards part"), ("unjudged", "not judged"))
+PARTS = ("a page of %d requests is played in %d parts: the preflight cache is empty at the beginning of each")
+
+
+def judge(recording: Recording, changes: Changes = NONE) -> dict[str, Any]:
+    """All that is said of a recording; with changes, what they would change."""
+    found = {"browser": recording.browser, "creator": recording.creator, "requests": recording.count,
+             "bad": [{"entry": number, "sentence": sentence} for number, sentence in recording.bad],
+             "notes": recording.notes}
+    judged = [(page, [(part, findings_of(part, recording.browser)) for part in parts_of(page)]) for page in recording.pages]
+    found["pages"] = [page_data(page, own, recording) for page, own in judged]
+    if changes:
+        found["changes"] = changes.told()
+        found.update(differences.of_pages(judged, changes))
+    return found
+
+
+def findings_of(part: Part, browser: str) -> list[Finding]:
+    """What is said of each command of a part."""
+    plain = played(part)
+    cases = [Cases(plain.cases.get(number), plain.problems.get(number, "")) for number in range(len(part.commands))]
+    add_suppositions(part, cases)
+    return [verdicts.verdict(command, own, browser) for command, own in zip(part.commands, cases)]
+
+
+def add_suppositions(part: Part, cases: list[Cases]) -> None:
+    """Plays what failed once more, as it may have been: with credentials, and with a bare answer in the place of a hidden one."""
+    played_ones = [(command, own) for command, own in zip(part.commands, cases) if own.plain is not None]
+    wrong = [(command, verdicts.is_refused(own.plain, command)) for command, own in played_ones
+             if verdicts.failed_of(command.chain) or verdicts.is_refused(own.plain, command)]
+    if any(command.asked.is_open for command, _ in wrong):
+        add(cases, played(part, OTHER), "other", [command.asked.is_open for command in part.commands])
+    if any(command.chain.last.is_hidden and not is_refused for command, is_refused in wrong):
+        add(cases, played(part, BARE), "bare", [command.chain.last.is_hidden for command in part.commands])
+
+
+def add(cases: list[Cases], found: Played, name: str, counts: list[bool]) -> None:
+    for number, own in enumerate(cases):
+        if counts[number]:
+            setattr(own, name, found.cases.get(number))
+
+
+# ---- a page
+
+def page_data(page: Page, judged: list[tuple[Part, list[Finding]]], recording: Recording) -> dict[str, Any]:
+    findings = [finding for _, own in judged for finding in own]
+    notes = list(page.notes)
+    if len(judged) > 1:
+        notes.append(PARTS % (len(findings), len(judged)))
+    return {
+        "url": page.url, "top": page.top, "entry": page.entry.number if page.entry else None,
+        "requests": count_of(page.chains) + len(page.left_out), "verdict": verdict_of(findings),
+        "findings": [verdicts.data_of(finding) for finding in findings],
+        "parts": parting.of_findings(findings, page, recording.browser),
+        "left_out": [{"entry": entry.number, "url": entry.url, "why": why} for entry, why in page.left_out],
+        "notes": notes}
+
+
+def verdict_of(findings: list[Finding]) -> str:
+    """The page's verdict, in a line."""
+    counts = Counter(finding.verdict for finding in findings)
+    told = [f"{counts[key]} {words}" for key, words in WORDS if counts[key]]
+    passed = counts[verdicts.PASSED]
+    if not told:
+        return f"all {passed} passed" if passed else "it asked for nothing that is played"
+    return ", ".join([*told, f"{passed} passed"])
+
+
+def fails(found: dict[str, Any]) -> bool:
+    """Whether a request failed, or never reached its page."""
+    bad = (verdicts.REFUSED, verdicts.UNREACHED, verdicts.FAILED, verdicts.OPEN)
+    return any(one["verdict"] in bad for page in found["pages"] for one in page["findings"])

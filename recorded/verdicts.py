@@ -1,0 +1,214 @@
+"""The verdict on each command: what the recording says came, what the standards make of it, and how sure that is."""
+from __future__ import annotations
+
+from dataclasses import dataclass, field
+from typing import Any, Optional
+
+from commands.case import Case
+from commands.urls import scheme_of
+from recorded import errors
+from recorded.commands_of import Command
+from recorded.model import Chain, Entry
+from recorded.scenarios import PASSING, Supposed
+
+PASSED, REFUSED, UNREACHED, FAILED, OPEN, PARTED, UNJUDGED = (
+    "passed", "refused", "unreached", "failed", "open", "parted", "unjudged")
+INTEGRITY = 22
+BY_ANSWER = "the recorded answer is refused as it stands"
+OTHER = Supposed(other_credentials=True)
+BARE = Supposed(bare=True)
+BEFORE = "nothing is sent: what the page has decides it"
+BY_PREFLIGHT = "the recorded answer to the preflight is refused as it stands"
+HIDDEN = "the recording hides the answer"
+
+
+@dataclass
+class Finding:
+    """What is said of one command. `certainty` is sure, if (a guess holds) or supposed; `how_sure` says it in words."""
+
+    command: Command
+    verdict: str
+    case: Optional[Case] = None  # that which explains the verdict
+    certainty: str = "sure"
+    how_sure: str = ""
+    told: str = ""  # where no case explains it
+    rule: str = ""  # of docs/BROWSERS.md
+    supposed: Supposed = PASSING  # how the case was played
+    notes: list[str] = field(default_factory=list)
+
+    @property
+    def chain(self) -> Chain:
+        return self.command.chain
+
+
+@dataclass
+class Cases:
+    """One command as it was played: as recorded, with its credentials the other way, and with a bare answer."""
+
+    plain: Optional[Case]
+    problem: str = ""
+    other: Optional[Case] = None
+    bare: Optional[Case] = None
+
+
+def failed_of(chain: Chain) -> Optional[Entry]:
+    """The entry of a chain that failed in the recording, the request before its preflight; None where none did."""
+    entries = [chain.last, *(chain.preflights[number] for number in sorted(chain.preflights))]
+    if scheme_of(chain.url) in ("ws", "wss") and chain.last.status == 101:
+        return None
+    return next((entry for entry in entries if entry.is_failed), None)
+
+
+# ---- what a case comes to
+
+def is_refused(case: Case, command: Command) -> bool:
+    """Whether the standards refuse it, by what is recorded: of a URL that is not played, whether a policy does."""
+    if case.verdict == "none":
+        return any(one.enforced for one in case.violations)
+    if lacks_body(case, command):
+        return False
+    return case.result.is_refused()
+
+
+def lacks_body(case: Case, command: Command) -> bool:
+    """Whether no more than the body, which is not recorded, does not fit."""
+    return case.result.number == INTEGRITY and not case.result.is_fault and not command.body and not case.is_opaque
+
+
+def is_unanswered(case: Case) -> bool:
+    """Whether the play asks for what the recording has no answer to."""
+    return case.has_no_rule or (case.answer is not None and case.answer.server is None and case.result.number == 25)
+
+
+def way_of(case: Case) -> str:
+    return case.explanation.way if case.explanation else ""
+
+
+# ---- the verdict
+
+def verdict(command: Command, cases: Cases, browser: str) -> Finding:
+    finding = bare_verdict(command, cases, browser)
+    finding.notes += command.notes
+    if finding.verdict in (REFUSED, UNREACHED):
+        weigh_credentials(finding, cases)
+    if finding.verdict in (REFUSED, UNREACHED) and finding.certainty == "sure" and command.asked.guesses:
+        finding.certainty = "if"
+        finding.how_sure += "; guessed is " + ", and ".join(command.asked.guesses)
+    return finding
+
+
+def bare_verdict(command: Command, cases: Cases, browser: str) -> Finding:
+    case, failed = cases.plain, failed_of(command.chain)
+    if case is None:
+        return Finding(command, UNJUDGED, told=cases.problem)
+    if case.result.is_fault:
+        return Finding(command, UNJUDGED, case, told="no page makes this request, as far as it is recorded")
+    refused = is_refused(case, command)
+    if refused and failed:
+        return of_refused_failure(command, cases, failed)
+    if refused:
+        return of_refused_success(command, case, browser)
+    if failed:
+        return of_failure(command, cases, failed, browser)
+    if is_unanswered(case):
+        return Finding(command, UNJUDGED, case, told=f"the standards ask {case.asked_url}, of which no answer is recorded")
+    return Finding(command, PASSED, case)
+
+
+def of_refused_failure(command: Command, cases: Cases, failed: Entry) -> Finding:
+    """It failed, and the standards refuse it: that is why, unless the browser tells of the network."""
+    case = cases.plain
+    network = errors.of_network(failed.error)
+    if network and not case.refused_before:
+        return Finding(command, FAILED, told=f"{network} ({failed.error})")
+    return Finding(command, REFUSED, case, how_sure=basis(case))
+
+
+def weigh_credentials(finding: Finding, cases: Cases) -> None:
+    """Says what credentials would change, where the recording cannot tell whether they went along."""
+    other = cases.other
+    if other is None or finding.supposed != PASSING:
+        return
+    if not is_refused(other, finding.command):
+        finding.certainty = "if"
+        finding.how_sure += "; it was asked without credentials, or this would pass"
+    elif way_of(other) != way_of(finding.case) and other.explanation:
+        finding.how_sure += f"; had it credentials, which the recording would not show: {other.explanation.condition}"
+
+
+def basis(case: Case) -> str:
+    """What of the recording decides."""
+    if not case.exchanges or case.refused_before:
+        return BEFORE
+    return BY_PREFLIGHT if 7 <= case.result.number <= 11 else BY_ANSWER
+
+
+def of_refused_success(command: Command, case: Case, browser: str) -> Finding:
+    """It looks like a success, and the standards refuse it."""
+    is_before = not case.exchanges or case.refused_before
+    if is_before and scheme_of(command.chain.url) in ("http", "https") and was_answered(command.chain, case):
+        return Finding(command, PARTED, case, told="the standards send nothing to it, and an answer is recorded")
+    if 7 <= case.result.number <= 11:
+        return Finding(command, PARTED, case, told="the standards refuse it at its preflight, and the request was answered")
+    if case.result.number == 12 and browser == "chromium":
+        return Finding(command, PARTED, case, told="Chromium's tools tell an error of each answer that CORS refuses, and none here")
+    return Finding(command, UNREACHED, case, how_sure=BEFORE if is_before else BY_ANSWER)
+
+
+def was_answered(chain: Chain, case: Case) -> bool:
+    """Whether the URL that is refused has an answer in the recording."""
+    return len(case.chain) < len(chain.hops) and not chain.hops[len(case.chain)].is_hidden
+
+
+def of_failure(command: Command, cases: Cases, failed: Entry, browser: str) -> Finding:
+    """It failed, and what is recorded lets it pass."""
+    case = cases.plain
+    if errors.is_orb(failed.error):
+        return Finding(command, PARTED, case, told="opaque response blocking kept it back, which is not played here",
+                       rule="opaque-response-blocking")
+    told = errors.of_network(failed.error) or errors.other(failed.error)
+    if told:
+        return Finding(command, FAILED, told=f"{told} ({failed.error})")
+    if cases.other is not None and is_refused(cases.other, command):
+        return Finding(command, REFUSED, cases.other, "if", "asked with credentials this is so, which the recording does not "
+                       "show; without them what is recorded passes", supposed=OTHER)
+    if not failed.is_hidden:
+        return Finding(command, PARTED, case, told=f"the browser tells an error ({failed.error}), and the standards refuse nothing")
+    bare = cases.bare
+    if bare is not None and is_refused(bare, command) and bare.result.number in (7, 12):
+        where = "to the preflight " if bare.result.number == 7 else ""
+        return Finding(command, REFUSED, bare, "supposed", f"{HIDDEN}: one {where}without CORS headers is refused so, and one "
+                       f"with others may be{or_network(failed)}", supposed=BARE)
+    return Finding(command, OPEN, case, told="the recording has no answer, and no rule refuses the request: the network, TLS, "
+                   "an extension, or the page itself ended it")
+
+
+def or_network(failed: Entry) -> str:
+    return "" if "ERR_FAILED" in failed.error else "; or no answer came, by a fault of the network"
+
+
+# ---- as data
+
+def data_of(finding: Finding) -> dict[str, Any]:
+    command, case, chain = finding.command, finding.case, finding.command.chain
+    explanation = case.explanation if case else None
+    is_why = explanation is not None and finding.verdict in (REFUSED, UNREACHED, PARTED)
+    enforced = [one for one in (case.violations if case else []) if one.enforced]
+    return {
+        "entry": chain.first.number, "entries": [entry.number for entry in chain.entries], "method": chain.first.method,
+        "url": chain.url, "kind": command.kind, "mode": command.asked.mode,
+        "credentials": "open" if command.asked.is_open else command.asked.credentials,
+        "recorded": recorded_of(chain), "verdict": finding.verdict,
+        "result": case.result.short() if case else None, "certainty": finding.certainty, "how_sure": finding.how_sure,
+        "told": finding.told, "rule": finding.rule, "why": explanation.data() if is_why else None,
+        "directive": enforced[0].directive if enforced and finding.verdict != PASSED else None,
+        "policies": [policy.data() for policy in case.policies_told] if case else [],
+        "guesses": command.asked.all_guesses, "notes": list(dict.fromkeys(finding.notes + (case.notes if case else [])))}
+
+
+def recorded_of(chain: Chain) -> str:
+    """What the recording says came of a chain, in words."""
+    statuses = [str(hop.status) for hop in chain.hops if not hop.is_hidden]
+    errors_told = [entry.error for entry in chain.entries if entry.error]
+    told = " ".join(statuses) if statuses and not chain.last.is_hidden else " ".join([*statuses, "no answer"])
+    return told + (f" ({errors_told[0]})" if errors_told else "")
