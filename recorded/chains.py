@@ -22,8 +22,8 @@ def chains_of(entries: list[Entry]) -> list[Chain]:
         else:
             chain, number = by_hop[id(owner)]
             chain.preflights[number] = preflight
-    order = {id(entry): place for place, entry in enumerate(entries)}
-    return sorted(map(without_internal, chains), key=lambda chain: min(order[id(one)] for one in chain.entries))
+    order = {entry.number: place for place, entry in enumerate(entries)}
+    return sorted(map(without_internal, chains), key=lambda chain: min(order[one.number] for one in chain.entries))
 
 
 # ---- preflights

@@ -20,8 +20,12 @@ PLAIN = ("accept", "accept-language", "content-language", "content-type", "range
 REFERRER_POLICIES = ("no-referrer", "no-referrer-when-downgrade", "origin", "origin-when-cross-origin", "same-origin",
                      "strict-origin", "strict-origin-when-cross-origin", "unsafe-url")
 MOST_HEADERS = 64
-LONGEST_URL = 8192
 LARGEST_BODY = 1048576
+# Answers that are not those of a server: what they let pass is supposed.
+ANSWERED = (
+    (lambda entry: entry.is_from_worker, "a service worker answered it, so no rule is asked about a server's answer"),
+    (lambda entry: entry.is_still_good, "the server said that what the HTTP cache had is still so, which is not recorded: no rule "
+     "is asked about that answer"))
 NO_BODY = "its integrity text was not checked, since the recording does not have the body whole"
 
 
@@ -55,8 +59,12 @@ class Command:
 
 def of_chain(chain: Chain, page: Page) -> Command:
     asked = asked_of(chain, page.url, page.html)
-    if asked.is_load:
-        return of_load(chain, page, asked)
+    command = of_load(chain, page, asked) if asked.is_load else of_fetch(chain, asked)
+    command.notes += [note for held, note in ANSWERED if any(map(held, chain.hops))]
+    return command
+
+
+def of_fetch(chain: Chain, asked: Asked) -> Command:
     options: dict[str, Any] = {"url": url_of(chain), "method": chain.first.method, "mode": asked.mode,
                                "credentials": asked.credentials}
     headers = script_headers(chain)

@@ -11,7 +11,8 @@ from recorded import verdicts
 from recorded.changes import Changes
 from recorded.model import Page
 from recorded.plays import Played, played
-from recorded.scenarios import Part, Supposed
+from recorded.rules import Supposed
+from recorded.scenarios import Part
 from recorded.verdicts import Finding
 
 BROKEN, WITH, MENDED, REPORTED, UPGRADED = "broken", "goes with it", "mended", "reported", "upgraded"

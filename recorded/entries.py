@@ -5,6 +5,8 @@ import datetime
 import re
 from typing import Any, Optional
 
+from commands.scenario import origin_of
+from commands.urls import scheme_of
 from recorded import fields
 from recorded.fields import Bad
 from recorded.model import Entry
@@ -25,7 +27,7 @@ def read(data: Any, number: int) -> Entry:
     if not TOKEN.fullmatch(method):
         raise Bad(f"{place}.request.method is no method: {method[:40]!r}")
     url = fields.text_of(request, "url", place + ".request").strip()
-    if not SCHEME.match(url):
+    if not SCHEME.match(url) or is_without_host(url):
         raise Bad(f"{place}.request.url is no whole URL: {url[:80]!r}")
     sent = headers_of(request, place + ".request")
     cookies = fields.list_of(request, "cookies", place + ".request")
@@ -37,6 +39,12 @@ def read(data: Any, number: int) -> Entry:
         initiator=initiator_of(data), redirect=fields.any_text(response, "redirectURL"),
         has_cookies=bool(cookies) or any(name.lower() == "cookie" for name, _ in sent),
         is_from_cache=bool(data.get("_fromCache")), is_from_worker=is_from_worker(response))
+
+
+def is_without_host(url: str) -> bool:
+    """Whether a URL of a scheme that has hosts has none that can be read."""
+    is_of_host = scheme_of(url) in ("http", "https", "ws", "wss")
+    return is_of_host and origin_of(re.sub("^ws", "http", url, flags=re.I)) is None
 
 
 def page_of(data: dict, place: str) -> Optional[str]:

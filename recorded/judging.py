@@ -12,8 +12,8 @@ from recorded.plays import Played, played
 from recorded.scenarios import Part, count_of, parts_of
 from recorded.verdicts import BARE, OTHER, Cases, Finding
 
-WORDS = (("refused", "refused"), ("unreached", "that look like a success and never reached the page"), ("failed", "failed"),
-         ("open", "open"), ("parted", "where the recording and the standards part"), ("unjudged", "not judged"))
+WORDS = (("refused", "refused"), ("unreached", "answered and never reached the page"), ("failed", "failed"),
+         ("open", "open"), ("parted", "that the standards judge otherwise"), ("unjudged", "not judged"))
 PARTS = ("a page of %d requests is played in %d parts: the preflight cache is empty at the beginning of each")
 
 
@@ -83,5 +83,5 @@ def verdict_of(findings: list[Finding]) -> str:
 
 def fails(found: dict[str, Any]) -> bool:
     """Whether a request failed, or never reached its page."""
-    bad = (verdicts.REFUSED, verdicts.UNREACHED, verdicts.FAILED, verdicts.OPEN)
-    return any(one["verdict"] in bad for page in found["pages"] for one in page["findings"])
+    return any(one["failed"] or one["verdict"] in (verdicts.REFUSED, verdicts.UNREACHED)
+               for page in found["pages"] for one in page["findings"])

@@ -29,6 +29,7 @@ ENDINGS = {"css": "style", "js": "script", "mjs": "script", "webmanifest": "mani
            **dict.fromkeys(("woff", "woff2", "ttf", "otf", "eot"), "font"),
            **dict.fromkeys(("mp4", "webm", "ogv", "mov", "m4v"), "video"),
            **dict.fromkeys(("mp3", "ogg", "oga", "wav", "m4a", "flac", "aac"), "audio")}
+NAVIGATION = "text/html,application/xhtml+xml"  # as browsers' Accept begins where they open a page
 ENDING = re.compile(r"\.([A-Za-z0-9]+)$")
 MODES = ("cors", "no-cors", "same-origin")
 WITHOUT = "that it is asked without credentials, since no cookie went along"
@@ -81,8 +82,9 @@ def of_type(entry: Entry) -> str:
 
 def guessed(entry: Entry) -> tuple[str, str]:
     accept = (entry.asked("Accept") or "").lower()
-    if accept.startswith("text/html") and entry.method in ("GET", "POST"):
-        return DOCUMENT, "Accept"
+    is_plain = entry.method in ("GET", "POST") and entry.asked("X-Requested-With") is None
+    if is_plain and (accept.startswith(NAVIGATION) or entry.asked("Upgrade-Insecure-Requests") == "1"):
+        return DOCUMENT, "the headers of a navigation"
     if is_scripted(entry):
         return FETCH, "its method or headers, which elements do not send"
     found = next((kind for start, kind in ACCEPTS if accept.startswith(start)), None)
@@ -98,7 +100,7 @@ def guessed(entry: Entry) -> tuple[str, str]:
 
 
 def is_scripted(entry: Entry) -> bool:
-    return entry.method not in ("GET", "HEAD") or entry.method == "HEAD" or entry.asked("X-Requested-With") is not None
+    return entry.method != "GET" or entry.asked("X-Requested-With") is not None
 
 
 def asked_of(chain: Chain, page_url: str, html: Optional[Html]) -> Asked:

@@ -57,6 +57,11 @@ class Entry:
         return self.status == 0
 
     @property
+    def is_still_good(self) -> bool:
+        """Whether the answer says that what the HTTP cache has is still so: a page sees that answer, which is not recorded."""
+        return self.status == 304
+
+    @property
     def is_failed(self) -> bool:
         return self.is_hidden or bool(self.error)
 

@@ -10,6 +10,7 @@ from recorded.chains import chains_of
 from recorded.known_hosts import LATEST, Book, is_domain, is_known
 from recorded.model import Chain, Entry, Page, Recording
 
+LONGEST_URL = 8192
 LOADED = ("http", "https", "data", "blob", "ws", "wss")
 UNKNOWN = "the page's own answer is not recorded, so its policies are not known"
 NOT_PLAYED = {
@@ -53,10 +54,11 @@ class Group:
         if is_frame and origin_of(chain.last.url):
             self.add(document_of(chain, page.top or page.url))
             page.left_out.append((chain.first, NOT_PLAYED[kinds.FRAME]))
-        elif kind in (*kinds.LOADS, kinds.FETCH) and scheme_of(chain.url) in LOADED:
+        elif kind in (*kinds.LOADS, kinds.FETCH) and self.why_left(chain) is None:
             page.chains.append(chain)
         else:
-            page.left_out.append((chain.first, NOT_PLAYED.get(kind) or self.why_left(chain, kind)))
+            why = NOT_PLAYED.get(kind) or self.why_left(chain) or f"what is loaded as {kind} is not played"
+            page.left_out.append((chain.first, why))
 
     def is_document(self, chain: Chain, kind: str) -> bool:
         """Whether a chain is the page itself; where nothing says what it is, the first that is the page's URL or HTML."""
@@ -68,10 +70,13 @@ class Group:
         return kind == kinds.DOCUMENT or (is_first and chain.first.method == "GET" and (is_own or is_html))
 
     @staticmethod
-    def why_left(chain: Chain, kind: str) -> str:
-        if scheme_of(chain.url) not in LOADED:
-            return f"a URL of the scheme {scheme_of(chain.url)}, which no page is asked for here"
-        return f"what is loaded as {kind} is not played"
+    def why_left(chain: Chain) -> Optional[str]:
+        """Why no scenario can have a chain; None where one can."""
+        scheme = scheme_of(chain.url)
+        if scheme not in LOADED:
+            return f"a URL of the scheme {scheme}, which is not played"
+        is_long = scheme not in ("data", "blob") and len(chain.url) > LONGEST_URL
+        return f"its URL has more than {LONGEST_URL:,} characters, which no scenario takes" if is_long else None
 
     def add(self, page: Page) -> Page:
         self.pages.append(page)

@@ -10,7 +10,8 @@ from commands import play_text, running, told
 from commands.case import Case
 from commands.scenario import Scenario
 from recorded.changes import NONE, Changes
-from recorded.scenarios import PASSING, Layer, Part, Supposed, layers_of
+from recorded.rules import PASSING, Supposed
+from recorded.scenarios import Layer, Part, layers_of
 
 COMMAND = re.compile(r"/documents/0/script/(\d+)(?:/.*)?")
 SERVER = re.compile(r"/servers/(\d+)(?:/origin|/rules/(\d+).*)?")

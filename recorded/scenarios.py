@@ -8,47 +8,23 @@ import json
 import re
 from dataclasses import dataclass, field
 from typing import Any, Iterator
-from urllib.parse import quote, urlsplit
+from urllib.parse import urlsplit
 
-from commands import csp, guards
-from commands.case import REDIRECTS
+from commands import csp
 from commands.policy_questions import PLAIN as PLAIN_ORIGIN
-from commands.scenario import origin_of
-from commands.urls import secure
 from recorded import commands_of
 from recorded.changes import NONE, Changes
 from recorded.commands_of import Command
 from recorded.known_hosts import Book
 from recorded.model import Chain, Entry, Page
+from recorded.rules import PASSING, READ, Rules, Supposed, rules_of
 
-# The headers of an answer that the rules of a fetch look at. The others are left out, so that answers which are alike to a
-# page are one.
-READ = ("access-control-allow-origin", "access-control-allow-credentials", "access-control-allow-methods",
-        "access-control-allow-headers", "access-control-max-age", "access-control-expose-headers", "content-type",
-        "x-content-type-options", "cross-origin-resource-policy", "location", "strict-transport-security",
-        "referrer-policy")
 DOCUMENT_HEADERS = (*csp.HEADERS, "referrer-policy")
-TYPES = {"script": "text/javascript", "style": "text/css", "font": "font/woff2", "manifest": "application/manifest+json",
-         "image": "image/png", "audio": "audio/mpeg", "video": "video/mp4", "fetch": "application/json"}
 MOST_COMMANDS = 1000  # of a part
 MOST_TEXT = 3000000  # characters of a part
 MOST_LAYERS = 8
 MOST_POLICIES = 16
 MOST_WAIT = 4294967295
-Key = tuple[str, str, str]  # origin, method, request target
-Rules = dict[Key, dict[str, Any]]
-
-
-@dataclass(frozen=True)
-class Supposed:
-    """What is taken for answers that are not recorded: such as let a page pass, or bare ones; and whether credentials of which
-    the recording says nothing were the other way."""
-
-    bare: bool = False
-    other_credentials: bool = False
-
-
-PASSING = Supposed()
 
 
 @dataclass
@@ -89,94 +65,6 @@ def parts_of(page: Page) -> list[Part]:
 
 def size_of(entry: Entry) -> int:
     return 200 + len(entry.url) + sum(len(name) + len(value) for name, value in entry.got if name.lower() in READ)
-
-
-# ---- answers
-
-def target_of(url: str) -> str:
-    """The request target of a URL, as a play prints it."""
-    parts = urlsplit(url)
-    path = quote(parts.path or "/", safe="/%:@!$&'()*+,;=~-._|^[]{}\\")
-    return path + ("?" + quote(parts.query, safe="/%:@!$&()*+,;=~-._|^[]{}\\?`") if "?" in url.partition("#")[0] else "")
-
-
-def key_of(url: str, method: str) -> Key:
-    return origin_of(url) or "", method, target_of(url)
-
-
-def rules_of(command: Command, page: Page, supposed: Supposed, changes: Changes) -> Rules:
-    """The answers that a command needs: of its hops, and of their preflights."""
-    chain, found = command.chain, {}
-    for number, hop in enumerate(chain.hops):
-        passing = passing_headers(origin_at(chain, number, origin_of(changes.page_url(page.url)) or ""))
-        rule = rule_of(hop, passing + [("Content-Type", TYPES[command.kind])], supposed)
-        found[key_of(hop.url, hop.method)] = rule if hop is not chain.last or not command.body else {**rule, "body": command.body}
-        if is_preflightable(command, number):
-            found[key_of(hop.url, "OPTIONS")] = preflight_rule(command, number, passing, supposed)
-    if changes.headers:
-        for (origin, _, target), rule in found.items():
-            rule["headers"] = list(map(list, changes.of_answer(origin + target, rule["headers"])))
-    if changes.may_upgrade:
-        for (origin, method, target), rule in list(found.items()):
-            found.setdefault((secure(origin), method, target), rule)
-    return found
-
-
-def is_preflightable(command: Command, number: int) -> bool:
-    """Whether the request of a hop may have a preflight: one was recorded, or its method or a header asks for one."""
-    headers = [tuple(pair) for pair in command.options.get("headers", [])]
-    return number in command.chain.preflights or not command.asked.is_load and (
-        command.chain.hops[number].method not in (*guards.SAFELISTED_METHODS, "OPTIONS") or bool(guards.unsafe_names(headers)))
-
-
-def rule_of(hop: Entry, passing: list[tuple[str, str]], supposed: Supposed) -> dict[str, Any]:
-    """The answer of one hop."""
-    if hop.is_hidden and supposed.bare:
-        return answer(200, [])
-    if hop.is_hidden or is_kept(hop) or hop.is_from_worker:
-        return answer(200, passing)
-    return answer(hop.status, read_of(hop))
-
-
-def preflight_rule(command: Command, number: int, passing: list[tuple[str, str]], supposed: Supposed) -> dict[str, Any]:
-    """The answer to the preflight of a hop. One that is not recorded has passed, where its request was answered."""
-    hop, preflight = command.chain.hops[number], command.chain.preflights.get(number)
-    if preflight is not None and not preflight.is_hidden:
-        return answer(preflight.status, read_of(preflight))
-    if supposed.bare and hop.is_hidden:
-        return answer(200, [])
-    names = ", ".join(name for name, _ in command.options.get("headers", []))
-    return answer(204, [*passing, ("Access-Control-Allow-Methods", hop.method),
-                        *([("Access-Control-Allow-Headers", names)] if names else [])])
-
-
-def is_kept(entry: Entry) -> bool:
-    """Whether the answer says that what the HTTP cache has is still so: a page sees that, which is not recorded."""
-    return entry.status == 304
-
-
-def origin_at(chain: Chain, number: int, page_origin: str) -> str:
-    """The origin that the request of a hop names: `null` once another origin than the page's has led to a third one."""
-    origins = [hop.origin for hop in chain.hops[:number + 1]]
-    is_tainted = any(one != other and one != page_origin for one, other in zip(origins, origins[1:]))
-    return "null" if is_tainted else page_origin
-
-
-def passing_headers(origin: str) -> list[tuple[str, str]]:
-    """Headers by which an answer lets a page of this origin read it, with credentials and without."""
-    return [("Access-Control-Allow-Origin", origin), ("Access-Control-Allow-Credentials", "true"),
-            ("Cross-Origin-Resource-Policy", "cross-origin")]
-
-
-def read_of(entry: Entry) -> list[tuple[str, str]]:
-    """The headers of an answer that are looked at."""
-    found = [(name, value) for name, value in entry.got if name.lower() in READ]
-    is_led = entry.status in REDIRECTS and entry.redirect and entry.answered("Location") is None
-    return found + ([("Location", entry.redirect)] if is_led else [])
-
-
-def answer(status: int, headers: list[tuple[str, str]]) -> dict[str, Any]:
-    return {"status": status, "headers": [list(pair) for pair in headers]}
 
 
 # ---- layers

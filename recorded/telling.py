@@ -84,6 +84,8 @@ def why_lines(finding: dict[str, Any], why: dict[str, Any]) -> Iterator[str]:
 
 def rest_of_page(page: dict[str, Any]) -> Iterator[str]:
     """Where recording and standards part, what was guessed, and what was left out."""
+    errors = [one for one in page["findings"] if one["verdict"] == "passed" and one["status"] >= 400]
+    yield from some(errors, lambda one: f"  answered with {one['status']}: {name_of(one)}, which no rule keeps from the page")
     yield from some(page["parts"], part_line)
     guesses = [(one, guess) for one in page["findings"] for guess in one["guesses"] if guess != WITHOUT]
     open_ones = sum(WITHOUT in one["guesses"] for one in page["findings"])

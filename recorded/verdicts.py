@@ -9,7 +9,7 @@ from commands.urls import scheme_of
 from recorded import errors
 from recorded.commands_of import Command
 from recorded.model import Chain, Entry
-from recorded.scenarios import PASSING, Supposed
+from recorded.rules import PASSING, Supposed
 
 PASSED, REFUSED, UNREACHED, FAILED, OPEN, PARTED, UNJUDGED = (
     "passed", "refused", "unreached", "failed", "open", "parted", "unjudged")
@@ -198,7 +198,8 @@ def data_of(finding: Finding) -> dict[str, Any]:
         "entry": chain.first.number, "entries": [entry.number for entry in chain.entries], "method": chain.first.method,
         "url": chain.url, "kind": command.kind, "mode": command.asked.mode,
         "credentials": "open" if command.asked.is_open else command.asked.credentials,
-        "recorded": recorded_of(chain), "verdict": finding.verdict,
+        "recorded": recorded_of(chain), "status": chain.last.status, "failed": failed_of(chain) is not None,
+        "verdict": finding.verdict,
         "result": case.result.short() if case else None, "certainty": finding.certainty, "how_sure": finding.how_sure,
         "told": finding.told, "rule": finding.rule, "why": explanation.data() if is_why else None,
         "directive": enforced[0].directive if enforced and finding.verdict != PASSED else None,

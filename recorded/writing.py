@@ -8,7 +8,8 @@ from typing import Any, Iterator, Optional
 from commands import files
 from recorded.changes import NONE, Changes
 from recorded.model import Recording
-from recorded.scenarios import PASSING, layers_of, parts_of
+from recorded.rules import PASSING
+from recorded.scenarios import layers_of, parts_of
 
 # A header of the document, which says nothing to a play: the mark of a file that may be written over.
 MARK = ["X-Made-By", "bin/har --scenario"]
