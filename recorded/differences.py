@@ -49,24 +49,27 @@ def of_page(number: int, page: Page, parts: list[tuple[Part, list[Finding]]], ch
 def of_command(finding: Finding, after: Case) -> Iterator[dict[str, Any]]:
     """What is otherwise of one request."""
     was, is_now = verdicts.is_refused(finding.case, finding.command), verdicts.is_refused(after, finding.command)
-    if finding.verdict in WORKED and is_now:
+    if finding.verdict in WORKED and is_now and not verdicts.is_unanswered(after):
         yield difference(BROKEN, finding, after)
     elif finding.verdict in DID_NOT and was and not is_now:
         yield difference(MENDED, finding, finding.case, "" if not verdicts.is_unanswered(after) else
                          f"{after.asked_url} is asked then, of which no answer is recorded")
-    before = {(one.policy, one.directive) for one in finding.case.fetch.of("violation") if not one.enforced}
-    told = {one.directive: one for one in after.fetch.of("violation")
-            if not one.enforced and (one.policy, one.directive) not in before}
-    for directive in told if finding.verdict in WORKED else ():
-        yield difference(REPORTED, finding, after, directive=directive)
+    if finding.verdict in WORKED:
+        for directive in sorted(reporting(after) - reporting(finding.case)):
+            yield difference(REPORTED, finding, after, directive=directive)
     urls = [url for url in findings.upgrades(after) if url not in findings.upgrades(finding.case)]
-    if urls and finding.verdict in WORKED and not is_now:
+    if urls and finding.verdict in WORKED and (not is_now or verdicts.is_unanswered(after)):
         yield difference(UPGRADED, finding, after, f"{urls[0]} is asked then: whether it answers is not recorded")
+
+
+def reporting(case: Case) -> set[str]:
+    """The directives of report-only policies that it violates."""
+    return {case.of_violation(one).directive[0] for one in case.violations if not one.enforced}
 
 
 def difference(kind: str, finding: Finding, case: Case, told: str = "", directive: str = "") -> dict[str, Any]:
     """One of them; `case` is the refused one, before or after."""
-    explanation = case.explanation if kind in (BROKEN, MENDED) else None
+    explanation = verdicts.explanation_of(case) if kind in (BROKEN, MENDED) else None
     return {"kind": kind, "entry": finding.chain.first.number, "method": finding.chain.first.method, "url": finding.chain.url,
             "load": finding.command.kind, "directive": directive or directive_of(case, kind),
             "host": host_of(case.url) or finding.chain.url.partition(":")[0] + ":",
@@ -87,25 +90,31 @@ def directive_of(case: Case, kind: str) -> str:
 def gone_with(found: list[dict[str, Any]], all_findings: list[Finding]) -> list[dict[str, Any]]:
     """What is not asked any more, since what asked for it is refused: by the initiator, or the Referer of a style."""
     broken = {one["entry"] for one in found if one["kind"] == BROKEN}
-    urls = {one["url"].partition("#")[0]: one["entry"] for one in found if one["kind"] == BROKEN and one["load"] in ("script", "style")}
+    askers = {finding.chain.first.number: urls_of(finding) for finding in all_findings
+              if finding.command.kind in ("script", "style")}
+    causes = {url: number for number in broken for url in askers.get(number, ())}
     gone: list[dict[str, Any]] = []
-    is_more = bool(urls)
+    is_more = bool(causes)
     while is_more:
         is_more = False
         for finding in all_findings:
-            entry = finding.chain.first
-            cause = next((urls[url] for url in askers(finding) if url in urls), None)
-            if cause is None or entry.number in broken or finding.verdict not in WORKED:
+            number = finding.chain.first.number
+            cause = next((causes[url] for url in asked_by(finding) if url in causes), None)
+            if cause is None or number in broken or finding.verdict not in WORKED:
                 continue
-            broken.add(entry.number)
+            broken.add(number)
             gone.append({**difference(WITH, finding, finding.case), "cause": cause})
-            if finding.command.kind in ("script", "style"):
-                urls[finding.chain.url] = entry.number
+            for url in askers.get(number, ()):
+                causes[url] = number
                 is_more = True
     return gone
 
 
-def askers(finding: Finding) -> list[str]:
+def urls_of(finding: Finding) -> list[str]:
+    return [finding.chain.url.partition("#")[0], *(hop.bare_url for hop in finding.chain.hops)]
+
+
+def asked_by(finding: Finding) -> list[str]:
     """The URLs of what may have asked: a script, or a style that its Referer names."""
     entry = finding.chain.first
     return [url.partition("#")[0] for url in (entry.initiator, entry.asked("Referer") or "") if url]

@@ -4,7 +4,7 @@ from __future__ import annotations
 from typing import Optional
 
 from commands.scenario import origin_of
-from commands.urls import host_of, scheme_of
+from commands.urls import host_of, scheme_of, without_user_info
 from recorded import elements, kinds
 from recorded.chains import chains_of
 from recorded.known_hosts import LATEST, Book, is_domain, is_known
@@ -46,7 +46,7 @@ class Group:
         """Takes the next chain: a document of its own, or what one of the documents asked for."""
         page = self.owner_of(chain.first) if self.pages else None
         kind, _ = kinds.kind_of(chain.first, page.html if page else None)
-        is_frame = kind == kinds.FRAME or (kind == kinds.DOCUMENT and self.top is not None and is_within(chain.first))
+        is_frame = kind == kinds.FRAME or (kind == kinds.DOCUMENT and self.top is not None and is_within(chain.first, self.top))
         if self.is_document(chain, kind) and not is_frame:
             self.top = self.add(document_of(chain))
             return
@@ -106,14 +106,17 @@ class Group:
         return next((page for page in [top, *reversed(frames)] if page.origin == origin), top)
 
 
-def is_within(entry: Entry) -> bool:
-    """Whether a document that is asked for while a page is there is a frame of it, as Chromium's tools tell its kind."""
-    return entry.asked("Sec-Fetch-Dest") is None and entry.resource_type == kinds.DOCUMENT
+def is_within(entry: Entry, top: Page) -> bool:
+    """Whether a document that is asked for while a page is there is a frame of it, where the tools tell its kind alone: as the
+    page's HTML has it, or by their lists of pages, where the HTML is not recorded."""
+    is_told = entry.asked("Sec-Fetch-Dest") is None and entry.resource_type == kinds.DOCUMENT
+    return is_told and (entry.page is not None if top.html is None else entry.bare_url in top.html.frames)
 
 
 def document_of(chain: Chain, top: Optional[str] = None) -> Page:
     entry = chain.last
-    page = Page(entry.bare_url, entry, top, elements.read(entry.body, entry.bare_url))
+    url = without_user_info(entry.bare_url)
+    page = Page(url, entry, top, elements.read(entry.body, url))
     if entry.is_hidden:
         page.notes.append(UNKNOWN)
     elif page.html is None:

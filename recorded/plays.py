@@ -18,6 +18,8 @@ SERVER = re.compile(r"/servers/(\d+)(?:/origin|/rules/(\d+).*)?")
 HOST = re.compile(r"/hsts/(\d+).*")
 MOST_TRIES = 12
 NO_SCENARIO = "no scenario can have it, at %s"
+NO_PAGE = "its page is none that a scenario can have"
+TOO_LONG = "the play of its page ended before it"
 MANY_ANSWERS = "its URL was answered in more ways than are played"
 
 
@@ -47,14 +49,18 @@ def play_layer(layer: Layer, found: Played) -> None:
         except running.Refused as refused:
             number = without(data, refused.place, numbers)
             if number is None:
+                problem = NO_PAGE
                 break
             if number >= 0:
                 found.problems.setdefault(number, NO_SCENARIO % refused.place)
             continue
         found.cases.update({number: case for number, case in zip(numbers, cases) if number in layer.own})
-        return
-    for number in layer.own:
-        found.problems.setdefault(number, "its page is none that a scenario can have")
+        problem = TOO_LONG
+        break
+    else:
+        problem = NO_PAGE
+    for number in layer.own - set(found.cases):
+        found.problems.setdefault(number, problem)
 
 
 def cases_of(data: dict[str, Any]) -> list[Case]:

@@ -5,6 +5,7 @@ from dataclasses import dataclass, field
 from typing import Any, Optional
 
 from commands.case import Case
+from commands.explanations import Explanation
 from commands.urls import scheme_of
 from recorded import errors
 from recorded.commands_of import Command
@@ -80,8 +81,15 @@ def is_unanswered(case: Case) -> bool:
     return case.has_no_rule or (case.answer is not None and case.answer.server is None and case.result.number == 25)
 
 
+def explanation_of(case: Case) -> Optional[Explanation]:
+    """Why a case came to what it came: of a URL that is not played, the policy that refuses it."""
+    refusing = [policy for policy in case.policies_told if policy.enforced] if case.verdict == "none" else []
+    return refusing[0] if refusing else case.explanation
+
+
 def way_of(case: Case) -> str:
-    return case.explanation.way if case.explanation else ""
+    explanation = explanation_of(case)
+    return explanation.way if explanation else ""
 
 
 # ---- the verdict
@@ -132,7 +140,7 @@ def weigh_credentials(finding: Finding, cases: Cases) -> None:
     if not is_refused(other, finding.command):
         finding.certainty = "if"
         finding.how_sure += "; it was asked without credentials, or this would pass"
-    elif way_of(other) != way_of(finding.case) and other.explanation:
+    elif way_of(other) not in ("", way_of(finding.case)):
         finding.how_sure += f"; had it credentials, which the recording would not show: {other.explanation.condition}"
 
 
@@ -191,7 +199,7 @@ def or_network(failed: Entry) -> str:
 
 def data_of(finding: Finding) -> dict[str, Any]:
     command, case, chain = finding.command, finding.case, finding.command.chain
-    explanation = case.explanation if case else None
+    explanation = explanation_of(case) if case else None
     is_why = explanation is not None and finding.verdict in (REFUSED, UNREACHED, PARTED)
     enforced = [one for one in (case.violations if case else []) if one.enforced]
     return {
@@ -203,7 +211,7 @@ def data_of(finding: Finding) -> dict[str, Any]:
         "result": case.result.short() if case else None, "certainty": finding.certainty, "how_sure": finding.how_sure,
         "told": finding.told, "rule": finding.rule, "why": explanation.data() if is_why else None,
         "directive": enforced[0].directive if enforced and finding.verdict != PASSED else None,
-        "policies": [policy.data() for policy in case.policies_told] if case else [],
+        "policies": [policy.data() for policy in case.policies_told if policy is not explanation] if case else [],
         "guesses": command.asked.all_guesses, "notes": list(dict.fromkeys(finding.notes + (case.notes if case else [])))}
 
 
