@@ -29,8 +29,8 @@ def chains_of(entries: list[Entry]) -> list[Chain]:
 # ---- preflights
 
 def owners_of(preflights: list[Entry], others: list[Entry]) -> dict[int, Entry]:
-    """The request that each preflight asks for, by the preflight's number: the nearest of its URL and method that has none
-    yet. Firefox has it before the OPTIONS, since it began first, and others behind."""
+    """The request that each preflight asks for, by the preflight's number: the nearest of its URL and method that has
+    none yet. Firefox has it before the OPTIONS, since it began first, and others behind."""
     by_key: dict[tuple[str, str], list[Entry]] = {}
     for entry in others:
         by_key.setdefault((entry.bare_url, entry.method), []).append(entry)

@@ -1,5 +1,5 @@
-"""What is to be changed, for the question what if: policies of the pages, their referrer policy, known hosts, and headers of
-answers."""
+"""What is to be changed, for the question what if: policies of the pages, their referrer policy, known hosts, and
+headers of answers."""
 from __future__ import annotations
 
 import functools
@@ -67,8 +67,8 @@ class Changes:
         return headers
 
     def of_page(self, url: str, headers: Pairs, policies: list[str]) -> tuple[Pairs, list[str]]:
-        """The headers of a document, and the policies of its meta elements. A policy stands in the place of those that there
-        were; one that only reports comes beside them."""
+        """The headers of a document, and the policies of its meta elements. A policy stands in the place of those
+        that there were; one that only reports comes beside them."""
         headers = self.of_answer(url, headers)
         if self.csp is not None or self.no_csp:
             headers = [pair for pair in headers if POLICIES.get(pair[0].lower()) is not True]
@@ -93,7 +93,8 @@ class Changes:
             if value is not None]
         found += ["no Content-Security-Policy"] if self.no_csp else []
         found += [f"{POLICY}: {UPGRADE}, beside the others"] if self.upgrade else []
-        found += [f"{host}{' and its subdomains' if below else ''} known to want https (HSTS)" for host, below in self.hsts]
+        found += [f"{host}{' and its subdomains' if below else ''} known to want https (HSTS)"
+                  for host, below in self.hsts]
         found += [f"answers of {one.pattern}: " + (f"{one.name}: {one.value}" if one.value is not None
                                                    else f"without {one.name}") for one in self.headers]
         return found

@@ -40,14 +40,18 @@ def policy(word: str) -> str:
 def read_words(self: str, words: list[str]) -> argparse.Namespace:
     """What the words say; wrong words end the program with the status 2."""
     parser = argparse.ArgumentParser(
-        prog=self, usage="%(prog)s RECORDING [changes] [--json|--brief] [--scenario DIR]\n       %(prog)s RECORDING --redact OUT",
-        allow_abbrev=False, description="says what came of each request of a recording (HAR), why, and what changes would change",
-        epilog="status: 0 nothing failed (with changes: nothing breaks), 1 something did, 2 wrong words or no HAR, 3 no play")
+        prog=self, allow_abbrev=False,
+        usage="%(prog)s RECORDING [changes] [--json|--brief] [--scenario DIR]\n       %(prog)s RECORDING --redact OUT",
+        description="says what came of each request of a recording (HAR), why, and what changes would change",
+        epilog="status: 0 nothing failed (with changes: nothing breaks), 1 something did, 2 wrong words or no HAR, "
+               "3 no play")
     parser.add_argument("recording", metavar="RECORDING", nargs="?",
                         help="a HAR file, plain or packed by gzip; standard input where it is left out")
     asked = parser.add_argument_group("what if", "the recording is played with these, and what comes otherwise is told")
-    asked.add_argument("--csp", metavar="TEXT", type=policy, help="the pages' policy, in the place of those that they have")
-    asked.add_argument("--csp-report-only", metavar="TEXT", type=policy, help="one that only reports, in the place of such")
+    asked.add_argument("--csp", metavar="TEXT", type=policy,
+                       help="the pages' policy, in the place of those that they have")
+    asked.add_argument("--csp-report-only", metavar="TEXT", type=policy,
+                       help="one that only reports, in the place of such")
     asked.add_argument("--no-csp", action="store_true", help="no policy")
     asked.add_argument("--referrer-policy", metavar="P", choices=POLICIES, help="the pages' referrer policy")
     asked.add_argument("--hsts", metavar="HOST[,subdomains]", action="append", type=domain, default=[],
@@ -62,8 +66,8 @@ def read_words(self: str, words: list[str]) -> argparse.Namespace:
     form.add_argument("--brief", action="store_true", help="a line for each verdict alone")
     form.add_argument("--json", action="store_true", help="JSON")
     printed.add_argument("--scenario", metavar="DIR", help="write a scenario for each page, for bin/why")
-    printed.add_argument("--redact", metavar="OUT", help="write the recording without cookies, Authorization and bodies, "
-                         "and play nothing")
+    printed.add_argument("--redact", metavar="OUT",
+                         help="write the recording without cookies, Authorization and bodies, and play nothing")
     given = parser.parse_args(words)
     if given.no_csp and (given.csp is not None or given.csp_report_only is not None):
         parser.error("--no-csp stands without --csp and --csp-report-only")

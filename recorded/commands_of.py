@@ -15,7 +15,8 @@ from recorded.model import Chain, Element, Entry, Page
 ADDED = {"user-agent", "accept-language", "cache-control", "pragma", "priority", "if-none-match", "if-modified-since",
          "if-range", "upgrade-insecure-requests", "save-data", "alt-used", "x-client-data", "purpose", "device-memory",
          "downlink", "ect", "rtt", "dpr", "width", "viewport-width", "range", "idempotency-key"}
-# Those whose values say whether a preflight is asked for; of others the name alone counts, and the value may be a secret.
+# Those whose values say whether a preflight is asked for; of others the name alone counts, and the value may be a
+# secret.
 PLAIN = ("accept", "accept-language", "content-language", "content-type", "range")
 REFERRER_POLICIES = ("no-referrer", "no-referrer-when-downgrade", "origin", "origin-when-cross-origin", "same-origin",
                      "strict-origin", "strict-origin-when-cross-origin", "unsafe-url")
@@ -24,8 +25,8 @@ LARGEST_BODY = 1048576
 # Answers that are not those of a server: what they let pass is supposed.
 ANSWERED = (
     (lambda entry: entry.is_from_worker, "a service worker answered it, so no rule is asked about a server's answer"),
-    (lambda entry: entry.is_still_good, "the server said that what the HTTP cache had is still so, which is not recorded: no rule "
-     "is asked about that answer"))
+    (lambda entry: entry.is_still_good,
+     "the server said that what the HTTP cache had is still so, which is not recorded: no rule is asked about it"))
 NO_BODY = "its integrity text was not checked, since the recording does not have the body whole"
 
 
@@ -90,8 +91,8 @@ def script_headers(chain: Chain) -> list[list[str]]:
         lowered = name.lower()
         if guards.in_place(name, value) is not None or lowered in ADDED and lowered not in named:
             continue
-        is_safe = guards.is_safelisted(name, value)
-        if (preflight and listed is not None and not is_safe and lowered not in named) or (lowered, value) == ("accept", "*/*"):
+        is_unnamed = listed is not None and lowered not in named and not guards.is_safelisted(name, value)
+        if is_unnamed or (lowered, value) == ("accept", "*/*"):
             continue
         found[lowered] = [name, value if lowered in PLAIN else "x"]
     for name in sorted(named - set(found)):

@@ -1,4 +1,5 @@
-"""What changes would change: the same requests are played with them, and what comes otherwise is told, largest group first."""
+"""What changes would change: the same requests are played with them, and what comes otherwise is told, largest group
+first."""
 from __future__ import annotations
 
 from typing import Any, Iterator, Optional
@@ -70,7 +71,8 @@ def reporting(case: Case) -> set[str]:
 def difference(kind: str, finding: Finding, case: Case, told: str = "", directive: str = "") -> dict[str, Any]:
     """One of them; `case` is the refused one, before or after."""
     explanation = verdicts.explanation_of(case) if kind in (BROKEN, MENDED) else None
-    return {"kind": kind, "entry": finding.chain.first.number, "method": finding.chain.first.method, "url": finding.chain.url,
+    first = finding.chain.first
+    return {"kind": kind, "entry": first.number, "method": first.method, "url": finding.chain.url,
             "load": finding.command.kind, "directive": directive or directive_of(case, kind),
             "host": host_of(case.url) or finding.chain.url.partition(":")[0] + ":",
             "why": explanation.condition if explanation else "", "way": explanation.way if explanation else "",

@@ -1,4 +1,5 @@
-"""What the HTML of a page says of its loads: policies of `meta`, the referrer policy, and the elements with their URLs."""
+"""What the HTML of a page says of its loads: policies of `meta`, the referrer policy, and the elements with their
+URLs."""
 from __future__ import annotations
 
 import re

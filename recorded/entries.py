@@ -1,4 +1,5 @@
-"""Reads one entry of a HAR, with the `_` fields of Chromium's tools, Playwright and WebPageTest where they are there."""
+"""Reads one entry of a HAR, with the `_` fields of Chromium's tools, Playwright and WebPageTest where they are
+there."""
 from __future__ import annotations
 
 import datetime
@@ -53,8 +54,8 @@ def page_of(data: dict, place: str) -> Optional[str]:
 
 
 def headers_of(data: dict, place: str) -> list[tuple[str, str]]:
-    """The headers, a pair for each line: some tools join equal ones by line ends, or by zero bytes. Pseudo headers of HTTP/2, as
-    `:path`, are no headers."""
+    """The headers, a pair for each line: some tools join equal ones by line ends, or by zero bytes. Pseudo headers of
+    HTTP/2, as `:path`, are no headers."""
     found = []
     for index, one in enumerate(fields.list_of(data, "headers", place)):
         own = f"{place}.headers[{index}]"

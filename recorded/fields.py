@@ -1,4 +1,5 @@
-"""Reads the parts of a JSON value whose types nobody has promised: each has its type, or a sentence says what is there."""
+"""Reads the parts of a JSON value whose types nobody has promised: each has its type, or a sentence says what is
+there."""
 from __future__ import annotations
 
 from typing import Any

@@ -1,4 +1,5 @@
-"""Reads a recording: the bytes of a HAR 1.2, plain or packed by gzip. What is no HAR, or is cut, is refused with its place."""
+"""Reads a recording: the bytes of a HAR 1.2, plain or packed by gzip. What is no HAR, or is cut, is refused with its
+place."""
 from __future__ import annotations
 
 import json

@@ -1,5 +1,5 @@
-"""Judges a recording: plays each page, and says what came of each request and why. `judge` is a pure function of a recording
-and changes, so it can be mapped over many."""
+"""Judges a recording: plays each page, and says what came of each request and why. `judge` is a pure function of a
+recording and changes, so it can be mapped over many."""
 from __future__ import annotations
 
 from collections import Counter
@@ -22,7 +22,8 @@ def judge(recording: Recording, changes: Changes = NONE) -> dict[str, Any]:
     found = {"browser": recording.browser, "creator": recording.creator, "requests": recording.count,
              "bad": [{"entry": number, "sentence": sentence} for number, sentence in recording.bad],
              "notes": recording.notes}
-    judged = [(page, [(part, findings_of(part, recording.browser)) for part in parts_of(page)]) for page in recording.pages]
+    judged = [(page, [(part, findings_of(part, recording.browser)) for part in parts_of(page)])
+              for page in recording.pages]
     found["pages"] = [page_data(page, own, recording) for page, own in judged]
     if changes:
         found["changes"] = changes.told()
@@ -39,7 +40,8 @@ def findings_of(part: Part, browser: str) -> list[Finding]:
 
 
 def add_suppositions(part: Part, cases: list[Cases]) -> None:
-    """Plays what failed once more, as it may have been: with credentials, and with a bare answer in the place of a hidden one."""
+    """Plays what failed once more, as it may have been: with credentials, and with a bare answer in the place of a
+    hidden one."""
     played_ones = [(command, own) for command, own in zip(part.commands, cases) if own.plain is not None]
     wrong = [(command, verdicts.is_refused(own.plain, command)) for command, own in played_ones
              if verdicts.failed_of(command.chain) or verdicts.is_refused(own.plain, command)]

@@ -1,6 +1,6 @@
-"""What an entry is to the page: a fetch, or the load of which kind, in which mode, with credentials or not. What the browser
-wrote into the request comes first (Sec-Fetch-Dest, Sec-Fetch-Mode), then the tools' own fields, then the page's HTML; what
-is left is guessed, and each guess is told."""
+"""What an entry is to the page: a fetch, or the load of which kind, in which mode, with credentials or not. What the
+browser wrote into the request comes first (Sec-Fetch-Dest, Sec-Fetch-Mode), then the tools' own fields, then the
+page's HTML; what is left is guessed, and each guess is told."""
 from __future__ import annotations
 
 import re
@@ -18,8 +18,8 @@ DESTINATIONS = {**{kind: kind for kind in LOADS}, "document": DOCUMENT, "iframe"
 TYPES = {"stylesheet": "style", "css": "style", "image": "image", "font": "font", "script": "script", "xhr": FETCH,
          "fetch": FETCH, "eventsource": FETCH, "ping": FETCH, "websocket": FETCH, "manifest": "manifest",
          "document": DOCUMENT, "media": "video"}
-ACCEPTS = (("text/css", "style"), ("image/", "image"), ("application/font", "font"), ("audio/", "audio"), ("video/", "video"),
-           ("application/manifest", "manifest"))
+ACCEPTS = (("text/css", "style"), ("image/", "image"), ("application/font", "font"), ("audio/", "audio"),
+           ("video/", "video"), ("application/manifest", "manifest"))
 CONTENTS = (("text/css", "style"), ("image/", "image"), ("font/", "font"), ("application/font", "font"),
             ("application/x-font", "font"), ("application/vnd.ms-fontobject", "font"), ("audio/", "audio"),
             ("video/", "video"), ("application/manifest+json", "manifest"), ("text/javascript", "script"),
@@ -76,8 +76,9 @@ def kind_of(entry: Entry, html: Optional[Html]) -> tuple[str, Optional[str]]:
 def of_type(entry: Entry) -> str:
     """By the tools' own field. What they call other is mostly the page's icon."""
     kind = TYPES.get(entry.resource_type)
-    is_sound = kind == "video" and (entry.answered("Content-Type") or "").startswith("audio/")
-    return "audio" if is_sound else kind or (guessed(entry)[0] if entry.resource_type == "other" else entry.resource_type)
+    if kind == "video" and (entry.answered("Content-Type") or "").startswith("audio/"):
+        return "audio"
+    return kind or (guessed(entry)[0] if entry.resource_type == "other" else entry.resource_type)
 
 
 def guessed(entry: Entry) -> tuple[str, str]:

@@ -17,7 +17,8 @@ HEADER = "strict-transport-security"
 
 def noted(entry: Entry) -> Optional[Known]:
     """What an answer makes known, until a time in seconds; None where it makes nothing known."""
-    value = next((value for name, value in entry.got if name.lower() == HEADER), None)  # RFC 6797, section 8.1: the first
+    # RFC 6797, section 8.1: of several fields the first
+    value = next((value for name, value in entry.got if name.lower() == HEADER), None)
     host = host_of(entry.url)
     if value is None or not entry.url.startswith("https:") or is_address(host) or not host:
         return None

@@ -15,8 +15,8 @@ CHARSET = re.compile(r"charset=\"?([\w.:-]+)", re.I)
 
 @dataclass
 class Entry:
-    """One request of the recording with its answer. `status` is 0 where there is no answer, and `error` what the browser
-    called the failure, or an empty text."""
+    """One request of the recording with its answer. `status` is 0 where there is no answer, and `error` what the
+    browser called the failure, or an empty text."""
 
     number: int
     page: Optional[str]
@@ -58,7 +58,8 @@ class Entry:
 
     @property
     def is_still_good(self) -> bool:
-        """Whether the answer says that what the HTTP cache has is still so: a page sees that answer, which is not recorded."""
+        """Whether the answer says that what the HTTP cache has is still so: a page sees that answer, which is not
+        recorded."""
         return self.status == 304
 
     @property
@@ -131,8 +132,8 @@ class Html:
 
 @dataclass
 class Chain:
-    """A request with the redirects behind it, and the preflights of its hops by their number. `url` is as the page asked:
-    an upgrade may lie between it and the first hop."""
+    """A request with the redirects behind it, and the preflights of its hops by their number. `url` is as the page
+    asked: an upgrade may lie between it and the first hop."""
 
     hops: list[Entry]
     preflights: dict[int, Entry] = field(default_factory=dict)
@@ -155,8 +156,8 @@ class Chain:
 
 @dataclass
 class Page:
-    """A document, and what it asked for. `entry` is the answer that it came with, where it is recorded; `top` the URL of
-    the page at the top, where it is a frame."""
+    """A document, and what it asked for. `entry` is the answer that it came with, where it is recorded; `top` the URL
+    of the page at the top, where it is a frame."""
 
     url: str
     entry: Optional[Entry] = None

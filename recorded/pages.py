@@ -13,6 +13,7 @@ from recorded.model import Chain, Entry, Page, Recording
 LONGEST_URL = 8192
 LOADED = ("http", "https", "data", "blob", "ws", "wss")
 UNKNOWN = "the page's own answer is not recorded, so its policies are not known"
+NO_HTML = "the page's body is not recorded: policies of its meta elements, nonces and integrity texts are not known"
 NOT_PLAYED = {
     kinds.FRAME: "the navigation of a frame, which is not played",
     kinds.DOCUMENT: "a navigation, which is not played",
@@ -46,7 +47,8 @@ class Group:
         """Takes the next chain: a document of its own, or what one of the documents asked for."""
         page = self.owner_of(chain.first) if self.pages else None
         kind, _ = kinds.kind_of(chain.first, page.html if page else None)
-        is_frame = kind == kinds.FRAME or (kind == kinds.DOCUMENT and self.top is not None and is_within(chain.first, self.top))
+        is_below = kind == kinds.DOCUMENT and self.top is not None and is_within(chain.first, self.top)
+        is_frame = kind == kinds.FRAME or is_below
         if self.is_document(chain, kind) and not is_frame:
             self.top = self.add(document_of(chain))
             return
@@ -61,7 +63,8 @@ class Group:
             page.left_out.append((chain.first, why))
 
     def is_document(self, chain: Chain, kind: str) -> bool:
-        """Whether a chain is the page itself; where nothing says what it is, the first that is the page's URL or HTML."""
+        """Whether a chain is the page itself; where nothing says what it is, the first that is the page's URL or
+        HTML."""
         if not origin_of(chain.last.url):
             return False
         is_html = (chain.last.answered("Content-Type") or "").lower().startswith("text/html")
@@ -107,8 +110,8 @@ class Group:
 
 
 def is_within(entry: Entry, top: Page) -> bool:
-    """Whether a document that is asked for while a page is there is a frame of it, where the tools tell its kind alone: as the
-    page's HTML has it, or by their lists of pages, where the HTML is not recorded."""
+    """Whether a document that is asked for while a page is there is a frame of it, where the tools tell its kind
+    alone: as the page's HTML has it, or by their lists of pages, where the HTML is not recorded."""
     is_told = entry.asked("Sec-Fetch-Dest") is None and entry.resource_type == kinds.DOCUMENT
     return is_told and (entry.page is not None if top.html is None else entry.bare_url in top.html.frames)
 
@@ -120,8 +123,7 @@ def document_of(chain: Chain, top: Optional[str] = None) -> Page:
     if entry.is_hidden:
         page.notes.append(UNKNOWN)
     elif page.html is None:
-        page.notes.append("the page's body is not recorded: policies of its meta elements, nonces and integrity texts are "
-                          "not known")
+        page.notes.append(NO_HTML)
     return page
 
 

@@ -1,4 +1,5 @@
-"""Plays the scenarios of a page: what each of its commands comes to. What no scenario can have costs its command alone."""
+"""Plays the scenarios of a page: what each of its commands comes to. What no scenario can have costs its command
+alone."""
 from __future__ import annotations
 
 import json
@@ -69,8 +70,8 @@ def cases_of(data: dict[str, Any]) -> list[Case]:
 
 
 def without(data: dict[str, Any], place: str, numbers: list[int]) -> Optional[int]:
-    """Takes out what is refused at a place. The number of the command that went, -1 of something else, None where nothing can
-    go."""
+    """Takes out what is refused at a place. The number of the command that went, -1 of something else, None where
+    nothing can go."""
     command, server, host = COMMAND.fullmatch(place), SERVER.fullmatch(place), HOST.fullmatch(place)
     if command:
         script, at = data["documents"][0]["script"], int(command.group(1))

@@ -10,9 +10,9 @@ def headers(pairs: Any) -> list[dict[str, str]]:
     return [{"name": name, "value": value} for name, value in pairs]
 
 
-def entry(url: str, kind: str, status: int = 200, got: Any = (), sent: Any = (), method: str = "GET", **more: Any) -> dict[str, Any]:
+def entry(url: str, kind: str, status: int = 200, got: Any = (), sent: Any = (), **more: Any) -> dict[str, Any]:
     """An entry as Chromium's tools write it."""
-    return {"_resourceType": kind, "request": {"method": method, "url": url, "headers": headers(sent)},
+    return {"_resourceType": kind, "request": {"method": "GET", "url": url, "headers": headers(sent)},
             "response": {"status": status, "headers": headers(got), "content": {}}, **more}
 
 
@@ -38,10 +38,10 @@ def fetched(url: str, allowed: bool = True, cookies: str = "", authorization: st
     return found
 
 
-def plain(url: str, method: str = "GET", status: int = 200, sent: Any = (), got: Any = (), **more: Any) -> dict[str, Any]:
+def plain(url: str, method: str = "GET", status: int = 200, sent: Any = (), got: Any = ()) -> dict[str, Any]:
     """An entry that says nothing of its kind, as a proxy writes it."""
     return {"request": {"method": method, "url": url, "headers": headers(sent)},
-            "response": {"status": status, "headers": headers(got)}, **more}
+            "response": {"status": status, "headers": headers(got)}}
 
 
 HTML = [("Content-Type", "text/html")]
@@ -55,8 +55,8 @@ def log(*entries: Any, **more: Any) -> dict[str, Any]:
 
 
 def read_otherwise() -> Iterator[tuple[str, Any, Any]]:
-    """Recordings with the pages and chains that they are: URL and top of each page, and of its chains the URLs of the hops and
-    the numbers of those that have a preflight."""
+    """Recordings with the pages and chains that they are: URL and top of each page, and of its chains the URLs of the
+    hops and the numbers of those that have a preflight."""
     api = "https://api.test/x"
     yield ("a preflight behind its request, and one before", log(
         plain(SHOP + "/", got=HTML), plain(api, "PUT", 0, REFERRED), plain(api, "OPTIONS", 204, PREFLIGHT),
@@ -66,13 +66,15 @@ def read_otherwise() -> Iterator[tuple[str, Any, Any]]:
            [(SHOP + "/", None, [([api], [0])])])
     yield ("redirects, of the page too", log(
         plain("http://shop.test/", status=301, got=[("Location", SHOP + "/")]), plain(SHOP + "/", got=HTML),
-        plain(SHOP + "/go", status=302, got=[("Location", "/there")], sent=REFERRED), plain(SHOP + "/there", sent=REFERRED)),
+        plain(SHOP + "/go", status=302, got=[("Location", "/there")], sent=REFERRED),
+        plain(SHOP + "/there", sent=REFERRED)),
         [(SHOP + "/", None, [([SHOP + "/go", SHOP + "/there"], [])])])
     yield ("two pages without a list of pages", log(
         plain(SHOP + "/", got=HTML, sent=OPENED), plain(SHOP + "/a.js", sent=REFERRED),
         plain(SHOP + "/cart", got=HTML, sent=OPENED), plain(SHOP + "/b.js", sent=[("Referer", SHOP + "/cart")]),
         plain(SHOP + "/c.js", sent=REFERRED)),
-        [(SHOP + "/", None, [([SHOP + "/a.js"], []), ([SHOP + "/c.js"], [])]), (SHOP + "/cart", None, [([SHOP + "/b.js"], [])])])
+        [(SHOP + "/", None, [([SHOP + "/a.js"], []), ([SHOP + "/c.js"], [])]),
+         (SHOP + "/cart", None, [([SHOP + "/b.js"], [])])])
     yield ("a frame, and what it asks for", log(
         plain(SHOP + "/", got=HTML, sent=[("Sec-Fetch-Dest", "document")]),
         plain("https://frame.test/", got=HTML, sent=[("Sec-Fetch-Dest", "iframe")]),

@@ -1,6 +1,6 @@
-"""Writes a recording without its secrets: cookies, Authorization, bodies, and what WebSockets carried. Of each object the
-keys that are listed here stay, and no other. Values in URLs and in other headers stay, since nothing says which of
-them are secret; their names are told."""
+"""Writes a recording without its secrets: cookies, Authorization, bodies, and what WebSockets carried. Of each object
+the keys that are listed here stay, and no other. Values in URLs and in other headers stay, since nothing says which
+of them are secret; their names are told."""
 from __future__ import annotations
 
 import json
@@ -20,8 +20,8 @@ NAMED = ("name", "version")
 PAGE = ("id", "title", "startedDateTime", "_URL", "_url")
 ENTRY = ("pageref", "startedDateTime", "time", "serverIPAddress", "connection", "_resourceType", "_request_type",
          "_resource_type", "_priority", "_securityState", "_fromCache", "_error", "_failureText")
-MESSAGE = ("method", "url", "httpVersion", "headersSize", "bodySize", "status", "statusText", "redirectURL", "_transferSize",
-           "_error", "_failureText", "_fetchedViaServiceWorker")
+MESSAGE = ("method", "url", "httpVersion", "headersSize", "bodySize", "status", "statusText", "redirectURL",
+           "_transferSize", "_error", "_failureText", "_fetchedViaServiceWorker")
 BODY = ("size", "mimeType", "compression")
 INITIATOR = ("type", "url", "lineNumber")
 MOST_NAMES = 20
@@ -59,7 +59,8 @@ def redacted_entry(entry: dict[str, Any]) -> dict[str, Any]:
 
 def redacted_message(message: Any, body: str) -> dict[str, Any]:
     message = message if isinstance(message, dict) else {}
-    found = {**kept(message, MESSAGE), "cookies": [], "headers": list(map(redacted_header, objects(message.get("headers"))))}
+    headers = list(map(redacted_header, objects(message.get("headers"))))
+    found = {**kept(message, MESSAGE), "cookies": [], "headers": headers}
     if isinstance(found.get("url"), str):
         found["url"] = without_user(found["url"])
     if message.get(body) is not None:
@@ -99,7 +100,8 @@ def query_keys(log: dict[str, Any]) -> list[str]:
     keys: set[str] = set()
     for request in requests(log):
         try:
-            keys.update(name for name, _ in parse_qsl(urlsplit(str(request.get("url", ""))).query, keep_blank_values=True))
+            query = urlsplit(str(request.get("url", ""))).query
+            keys.update(name for name, _ in parse_qsl(query, keep_blank_values=True))
         except ValueError:
             continue
     return sorted(keys)

@@ -1,5 +1,5 @@
-"""The rules of a scenario's servers: which answers a command needs, as they are recorded, or as they are supposed where they
-are not."""
+"""The rules of a scenario's servers: which answers a command needs, as they are recorded, or as they are supposed
+where they are not."""
 from __future__ import annotations
 
 from dataclasses import dataclass
@@ -14,22 +14,26 @@ from recorded.changes import Changes
 from recorded.commands_of import Command
 from recorded.model import Chain, Entry, Page
 
-# The headers of an answer that the rules of a fetch look at. The others are left out, so that answers which are alike to a
-# page are one.
+# The headers of an answer that the rules of a fetch look at. The others are left out, so that answers which are alike
+# to a page are one.
 READ = ("access-control-allow-origin", "access-control-allow-credentials", "access-control-allow-methods",
         "access-control-allow-headers", "access-control-max-age", "access-control-expose-headers", "content-type",
         "x-content-type-options", "cross-origin-resource-policy", "location", "strict-transport-security",
         "referrer-policy")
-TYPES = {"script": "text/javascript", "style": "text/css", "font": "font/woff2", "manifest": "application/manifest+json",
-         "image": "image/png", "audio": "audio/mpeg", "video": "video/mp4", "fetch": "application/json"}
+TYPES = {"script": "text/javascript", "style": "text/css", "font": "font/woff2", "image": "image/png",
+         "audio": "audio/mpeg", "video": "video/mp4", "manifest": "application/manifest+json",
+         "fetch": "application/json"}
+# What the URL Standard leaves as it is in a path, and in a query.
+IN_PATH = "/%:@!$&'()*+,;=~-._|^[]{}\\"
+IN_QUERY = "/%:@!$&()*+,;=~-._|^[]{}\\?`"
 Key = tuple[str, str, str]  # origin, method, request target
 Rules = dict[Key, dict[str, Any]]
 
 
 @dataclass(frozen=True)
 class Supposed:
-    """What is taken for answers that are not recorded: such as let a page pass, or bare ones; and whether credentials of which
-    the recording says nothing were the other way."""
+    """What is taken for answers that are not recorded: such as let a page pass, or bare ones; and whether credentials
+    of which the recording says nothing were the other way."""
 
     bare: bool = False
     other_credentials: bool = False
@@ -41,8 +45,8 @@ PASSING = Supposed()
 def target_of(url: str) -> str:
     """The request target of a URL, as a play prints it."""
     parts = urlsplit(url)
-    path = quote(parts.path or "/", safe="/%:@!$&'()*+,;=~-._|^[]{}\\")
-    return path + ("?" + quote(parts.query, safe="/%:@!$&()*+,;=~-._|^[]{}\\?`") if "?" in url.partition("#")[0] else "")
+    path, query = quote(parts.path or "/", safe=IN_PATH), quote(parts.query, safe=IN_QUERY)
+    return f"{path}?{query}" if "?" in url.partition("#")[0] else path
 
 
 def key_of(url: str, method: str) -> Key:
@@ -55,7 +59,9 @@ def rules_of(command: Command, page: Page, supposed: Supposed, changes: Changes)
     for number, hop in enumerate(chain.hops):
         passing = passing_headers(origin_at(chain, number, origin_of(changes.page_url(page.url)) or ""))
         rule = rule_of(hop, passing + [("Content-Type", TYPES[command.kind])], supposed)
-        found[key_of(hop.url, hop.method)] = rule if hop is not chain.last or not command.body else {**rule, "body": command.body}
+        if hop is chain.last and command.body:
+            rule["body"] = command.body
+        found[key_of(hop.url, hop.method)] = rule
         if is_preflightable(command, number):
             found[key_of(hop.url, "OPTIONS")] = preflight_rule(command, number, passing, supposed)
     if changes.headers:
@@ -69,9 +75,10 @@ def rules_of(command: Command, page: Page, supposed: Supposed, changes: Changes)
 
 def is_preflightable(command: Command, number: int) -> bool:
     """Whether the request of a hop may have a preflight: one was recorded, or its method or a header asks for one."""
-    headers = [tuple(pair) for pair in command.options.get("headers", [])]
-    return number in command.chain.preflights or not command.asked.is_load and (
-        command.chain.hops[number].method not in (*guards.SAFELISTED_METHODS, "OPTIONS") or bool(guards.unsafe_names(headers)))
+    if command.asked.is_load or number in command.chain.preflights:
+        return number in command.chain.preflights
+    is_unsafe = command.chain.hops[number].method not in (*guards.SAFELISTED_METHODS, "OPTIONS")
+    return is_unsafe or bool(guards.unsafe_names(command.options.get("headers", [])))
 
 
 def rule_of(hop: Entry, passing: list[tuple[str, str]], supposed: Supposed) -> dict[str, Any]:

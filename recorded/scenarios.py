@@ -1,6 +1,6 @@
-"""Makes scenarios of a page: its document, its commands, and servers that answer as it is recorded. A page that is too large
-is cut into parts. A scenario has one answer for each request; where a request was answered in several ways, a part
-has several scenarios, its layers, and each command counts in that which has its own answer."""
+"""Makes scenarios of a page: its document, its commands, and servers that answer as it is recorded. A page that is
+too large is cut into parts. A scenario has one answer for each request; where a request was answered in several ways,
+a part has several scenarios, its layers, and each command counts in that which has its own answer."""
 from __future__ import annotations
 
 import ipaddress
@@ -70,7 +70,8 @@ def size_of(entry: Entry) -> int:
 # ---- layers
 
 def layers_of(part: Part, supposed: Supposed = PASSING, changes: Changes = NONE) -> tuple[list[Layer], list[int]]:
-    """The scenarios of a part, and the numbers of the commands that are in none: their URL was answered in too many ways."""
+    """The scenarios of a part, and the numbers of the commands that are in none: their URL was answered in too many
+    ways."""
     all_rules: list[Rules] = []
     owned: list[set[int]] = []
     left = []
@@ -125,7 +126,8 @@ def script_of(part: Part, supposed: Supposed) -> Iterator[dict[str, Any]]:
 
 
 def document_headers(page: Page, changes: Changes = NONE) -> list[tuple[str, str]]:
-    """Those that the rules look at, with what the page's `meta` elements say; of policies no more than a scenario takes."""
+    """Those that the rules look at, with what the page's `meta` elements say; of policies no more than a scenario
+    takes."""
     headers = [(name, value) for name, value in (page.entry.got if page.entry else [])
                if name.lower() in DOCUMENT_HEADERS]
     if page.html and page.html.referrer_policy:

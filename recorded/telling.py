@@ -1,5 +1,5 @@
-"""What is printed of a judged recording: for each page the verdict first, then what failed or never came, why, what to change,
-and how sure that is."""
+"""What is printed of a judged recording: for each page the verdict first, then what failed or never came, why, what
+to change, and how sure that is."""
 from __future__ import annotations
 
 from typing import Any, Iterator
@@ -8,8 +8,8 @@ from commands.summaries import shown
 from recorded.kinds import WITHOUT
 
 MOST = 20  # lines of a kind
-NAMES = {"refused": "refused", "unreached": "never reached the page", "failed": "failed", "open": "open", "parted": "parted",
-         "unjudged": "not judged"}
+NAMES = {"refused": "refused", "unreached": "never reached the page", "failed": "failed", "open": "open",
+         "parted": "parted", "unjudged": "not judged"}
 TOLD = tuple(NAMES)
 KINDS = {"broken": "would be refused", "goes with it": "would not be asked any more", "reported": "would be reported",
          "mended": "would be mended", "upgraded": "would be asked over https"}
@@ -28,7 +28,8 @@ def lines(found: dict[str, Any], is_brief: bool) -> Iterator[str]:
         if not is_brief:
             yield from rest_of_page(page)
     if not found["pages"]:
-        yield "no page: the recording has no entry that could be read" if found["requests"] else "no page: the recording is empty"
+        what = "has no entry that could be read" if found["requests"] else "is empty"
+        yield f"no page: the recording {what}"
     yield from bad_lines(found)
 
 
@@ -85,7 +86,7 @@ def why_lines(finding: dict[str, Any], why: dict[str, Any]) -> Iterator[str]:
 def rest_of_page(page: dict[str, Any]) -> Iterator[str]:
     """Where recording and standards part, what was guessed, and what was left out."""
     errors = [one for one in page["findings"] if one["verdict"] == "passed" and one["status"] >= 400]
-    yield from some(errors, lambda one: f"  answered with {one['status']}: {name_of(one)}, which no rule keeps from the page")
+    yield from some(errors, lambda one: f"  answered with {one['status']}, and the page saw it: {name_of(one)}")
     yield from some(page["parts"], part_line)
     guesses = [(one, guess) for one in page["findings"] for guess in one["guesses"] if guess != WITHOUT]
     open_ones = sum(WITHOUT in one["guesses"] for one in page["findings"])
@@ -94,14 +95,15 @@ def rest_of_page(page: dict[str, Any]) -> Iterator[str]:
     yield from some(guesses, lambda pair: f"  guessed of entry {pair[0]['entry']}, {name_of(pair[0])}: {pair[1]}")
     notes = [(one, note) for one in page["findings"] for note in one["notes"] if one["verdict"] == "passed"]
     yield from some(notes, lambda pair: f"  note: entry {pair[0]['entry']}, {name_of(pair[0])}: {pair[1]}")
-    yield from some(page["left_out"], lambda one: f"  left out: entry {one['entry']}, {shown(one['url'])}: {one['why']}")
+    yield from some(page["left_out"],
+                    lambda one: f"  left out: entry {one['entry']}, {shown(one['url'])}: {one['why']}")
     yield from (f"  note: {note}" for note in page["notes"])
 
 
 def part_line(part: dict[str, Any]) -> str:
     rule = f"docs/BROWSERS.md, `{part['rule']}`" if part["rule"] else "open: no rule of docs/BROWSERS.md explains it"
-    return (f"  parts: entry {part['entry']}, {shown(part['url'])}: {part['what']}: the standards have {part['standard']}, "
-            f"and the recording {part['browser']} ({rule})")
+    return (f"  parts: entry {part['entry']}, {shown(part['url'])}: {part['what']}: "
+            f"the standards have {part['standard']}, and the recording {part['browser']} ({rule})")
 
 
 def some(found: list, line_of: Any) -> Iterator[str]:

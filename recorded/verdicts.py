@@ -21,6 +21,10 @@ BARE = Supposed(bare=True)
 BEFORE = "nothing is sent: what the page has decides it"
 BY_PREFLIGHT = "the recorded answer to the preflight is refused as it stands"
 HIDDEN = "the recording hides the answer"
+WITH_CREDENTIALS = ("asked with credentials this is so, which the recording does not show; without them what is "
+                    "recorded passes")
+NO_RULE = ("the recording has no answer, and no rule refuses the request: the network, TLS, an extension, or the page "
+           "itself ended it")
 
 
 @dataclass
@@ -119,7 +123,8 @@ def bare_verdict(command: Command, cases: Cases, browser: str) -> Finding:
     if failed:
         return of_failure(command, cases, failed, browser)
     if is_unanswered(case):
-        return Finding(command, UNJUDGED, case, told=f"the standards ask {case.asked_url}, of which no answer is recorded")
+        return Finding(command, UNJUDGED, case,
+                       told=f"the standards ask {case.asked_url}, of which no answer is recorded")
     return Finding(command, PASSED, case)
 
 
@@ -157,9 +162,11 @@ def of_refused_success(command: Command, case: Case, browser: str) -> Finding:
     if is_before and scheme_of(command.chain.url) in ("http", "https") and was_answered(command.chain, case):
         return Finding(command, PARTED, case, told="the standards send nothing to it, and an answer is recorded")
     if 7 <= case.result.number <= 11:
-        return Finding(command, PARTED, case, told="the standards refuse it at its preflight, and the request was answered")
+        return Finding(command, PARTED, case,
+                       told="the standards refuse it at its preflight, and the request was answered")
     if case.result.number == 12 and browser == "chromium":
-        return Finding(command, PARTED, case, told="Chromium's tools tell an error of each answer that CORS refuses, and none here")
+        return Finding(command, PARTED, case,
+                       told="Chromium's tools tell an error of each answer that CORS refuses, and none here")
     return Finding(command, UNREACHED, case, how_sure=BEFORE if is_before else BY_ANSWER)
 
 
@@ -178,21 +185,17 @@ def of_failure(command: Command, cases: Cases, failed: Entry, browser: str) -> F
     if told:
         return Finding(command, FAILED, told=f"{told} ({failed.error})")
     if cases.other is not None and is_refused(cases.other, command):
-        return Finding(command, REFUSED, cases.other, "if", "asked with credentials this is so, which the recording does not "
-                       "show; without them what is recorded passes", supposed=OTHER)
+        return Finding(command, REFUSED, cases.other, "if", WITH_CREDENTIALS, supposed=OTHER)
     if not failed.is_hidden:
-        return Finding(command, PARTED, case, told=f"the browser tells an error ({failed.error}), and the standards refuse nothing")
+        return Finding(command, PARTED, case,
+                       told=f"the browser tells an error ({failed.error}), and the standards refuse nothing")
     bare = cases.bare
     if bare is not None and is_refused(bare, command) and bare.result.number in (7, 12):
-        where = "to the preflight " if bare.result.number == 7 else ""
-        return Finding(command, REFUSED, bare, "supposed", f"{HIDDEN}: one {where}without CORS headers is refused so, and one "
-                       f"with others may be{or_network(failed)}", supposed=BARE)
-    return Finding(command, OPEN, case, told="the recording has no answer, and no rule refuses the request: the network, TLS, "
-                   "an extension, or the page itself ended it")
-
-
-def or_network(failed: Entry) -> str:
-    return "" if "ERR_FAILED" in failed.error else "; or no answer came, by a fault of the network"
+        where = " to the preflight" if bare.result.number == 7 else ""
+        how_sure = f"{HIDDEN}{where}: without CORS headers it is refused so, and with others it may be"
+        how_sure += "" if "ERR_FAILED" in failed.error else "; or no answer came, by a fault of the network"
+        return Finding(command, REFUSED, bare, "supposed", how_sure, supposed=BARE)
+    return Finding(command, OPEN, case, told=NO_RULE)
 
 
 # ---- as data
@@ -212,7 +215,8 @@ def data_of(finding: Finding) -> dict[str, Any]:
         "told": finding.told, "rule": finding.rule, "why": explanation.data() if is_why else None,
         "directive": enforced[0].directive if enforced and finding.verdict != PASSED else None,
         "policies": [policy.data() for policy in case.policies_told if policy is not explanation] if case else [],
-        "guesses": command.asked.all_guesses, "notes": list(dict.fromkeys(finding.notes + (case.notes if case else [])))}
+        "guesses": command.asked.all_guesses,
+        "notes": list(dict.fromkeys(finding.notes + (case.notes if case else [])))}
 
 
 def recorded_of(chain: Chain) -> str:
