@@ -185,7 +185,8 @@ def of_failure(command: Command, cases: Cases, failed: Entry, browser: str) -> F
     if told:
         return Finding(command, FAILED, told=f"{told} ({failed.error})")
     if cases.other is not None and is_refused(cases.other, command):
-        return Finding(command, REFUSED, cases.other, "if", WITH_CREDENTIALS, supposed=OTHER)
+        how_sure = WITH_CREDENTIALS + (", and its hidden answer would be to blame" if failed.is_hidden else "")
+        return Finding(command, REFUSED, cases.other, "if", how_sure, supposed=OTHER)
     if not failed.is_hidden:
         return Finding(command, PARTED, case,
                        told=f"the browser tells an error ({failed.error}), and the standards refuse nothing")
