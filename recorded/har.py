@@ -32,7 +32,9 @@ def read(data: bytes) -> Recording:
     """The recording that bytes are; raises NoHar."""
     log = log_of(data)
     found, bad = entries_of(log["entries"])
-    recording = Recording(browser=browser_of(log, found), creator=creator_of(log), count=len(log["entries"]), bad=bad)
+    creator = creator_of(log)
+    recording = Recording(browser=browser_of(creator, found), creator=creator, tells_errors=tells_errors(creator),
+                          count=len(log["entries"]), bad=bad)
     pages.add(recording, titles_of(log), found)
     return recording
 
@@ -153,9 +155,14 @@ def creator_of(log: dict) -> str:
     return ", ".join(dict.fromkeys(filter(None, parts)))
 
 
-def browser_of(log: dict, found: list[Entry]) -> str:
+def tells_errors(creator: str) -> bool:
+    """Chromium's own tools do, and Playwright in Chromium."""
+    return creator.startswith("WebInspector") or "Playwright" in creator and "chrom" in creator.lower()
+
+
+def browser_of(creator: str, found: list[Entry]) -> str:
     """Which browser made it: its tools' name says so, or else the requests."""
-    told = creator_of(log).lower()
+    told = creator.lower()
     agents = (entry.asked("User-Agent") or "" for entry in found[:20])
     agent = next(filter(None, agents), "")
     if "firefox" in told or "firefox/" in agent.lower():

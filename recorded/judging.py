@@ -22,7 +22,7 @@ def judge(recording: Recording, changes: Changes = NONE) -> dict[str, Any]:
     found = {"browser": recording.browser, "creator": recording.creator, "requests": recording.count,
              "bad": [{"entry": number, "sentence": sentence} for number, sentence in recording.bad],
              "notes": recording.notes}
-    judged = [(page, [(part, findings_of(part, recording.browser)) for part in parts_of(page)])
+    judged = [(page, [(part, findings_of(part, recording)) for part in parts_of(page)])
               for page in recording.pages]
     found["pages"] = [page_data(page, own, recording) for page, own in judged]
     if changes:
@@ -31,12 +31,12 @@ def judge(recording: Recording, changes: Changes = NONE) -> dict[str, Any]:
     return found
 
 
-def findings_of(part: Part, browser: str) -> list[Finding]:
+def findings_of(part: Part, recording: Recording) -> list[Finding]:
     """What is said of each command of a part."""
     plain = played(part)
     cases = [Cases(plain.cases.get(number), plain.problems.get(number, "")) for number in range(len(part.commands))]
     add_suppositions(part, cases)
-    return [verdicts.verdict(command, own, browser) for command, own in zip(part.commands, cases)]
+    return [verdicts.verdict(command, own, recording.tells_errors) for command, own in zip(part.commands, cases)]
 
 
 def add_suppositions(part: Part, cases: list[Cases]) -> None:

@@ -179,6 +179,7 @@ class Recording:
 
     browser: str  # chromium, firefox, or an empty text
     creator: str
+    tells_errors: bool  # whether each answer that a rule has refused has an error word
     count: int
     pages: list[Page] = field(default_factory=list)
     bad: list[tuple[int, str]] = field(default_factory=list)

@@ -122,6 +122,8 @@ def document_of(chain: Chain, top: Optional[str] = None) -> Page:
     page = Page(url, entry, top, elements.read(entry.body, url))
     if entry.is_hidden:
         page.notes.append(UNKNOWN)
+    elif entry.is_still_good:
+        page.notes.append("the page came from the HTTP cache (304): what its answer does not repeat is not known")
     elif page.html is None:
         page.notes.append(NO_HTML)
     return page

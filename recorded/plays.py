@@ -21,7 +21,6 @@ MOST_TRIES = 12
 NO_SCENARIO = "no scenario can have it, at %s"
 NO_PAGE = "its page is none that a scenario can have"
 TOO_LONG = "the play of its page ended before it"
-MANY_ANSWERS = "its URL was answered in more ways than are played"
 
 
 @dataclass
@@ -34,7 +33,7 @@ class Played:
 
 def played(part: Part, supposed: Supposed = PASSING, changes: Changes = NONE) -> Played:
     layers, left = layers_of(part, supposed, changes)
-    found = Played(problems={number: MANY_ANSWERS for number in left})
+    found = Played(problems=left)
     for layer in layers:
         play_layer(layer, found)
     return found

@@ -3,7 +3,7 @@ where they are not."""
 from __future__ import annotations
 
 from dataclasses import dataclass
-from typing import Any
+from typing import Any, Optional
 from urllib.parse import quote, urlsplit
 
 from commands import guards
@@ -53,15 +53,17 @@ def key_of(url: str, method: str) -> Key:
     return origin_of(url) or "", method, target_of(url)
 
 
-def rules_of(command: Command, page: Page, supposed: Supposed, changes: Changes) -> Rules:
-    """The answers that a command needs: of its hops, and of their preflights."""
+def rules_of(command: Command, page: Page, supposed: Supposed, changes: Changes) -> Optional[Rules]:
+    """The answers that a command needs: of its hops, and of their preflights. None where one request was answered in
+    two ways, as a login does that leads back."""
     chain, found = command.chain, {}
     for number, hop in enumerate(chain.hops):
         passing = passing_headers(origin_at(chain, number, origin_of(changes.page_url(page.url)) or ""))
         rule = rule_of(hop, passing + [("Content-Type", TYPES[command.kind])], supposed)
         if hop is chain.last and command.body:
             rule["body"] = command.body
-        found[key_of(hop.url, hop.method)] = rule
+        if found.setdefault(key_of(hop.url, hop.method), rule) != rule:
+            return None
         if is_preflightable(command, number):
             found[key_of(hop.url, "OPTIONS")] = preflight_rule(command, number, passing, supposed)
     if changes.headers:

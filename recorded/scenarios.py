@@ -25,6 +25,8 @@ MOST_TEXT = 3000000  # characters of a part
 MOST_LAYERS = 8
 MOST_POLICIES = 16
 MOST_WAIT = 4294967295
+MANY_ANSWERS = "its URL was answered in more ways than are played"
+TWO_ANSWERS = "its redirects come back to a URL that is answered otherwise then, which no scenario has"
 
 
 @dataclass
@@ -69,17 +71,18 @@ def size_of(entry: Entry) -> int:
 
 # ---- layers
 
-def layers_of(part: Part, supposed: Supposed = PASSING, changes: Changes = NONE) -> tuple[list[Layer], list[int]]:
-    """The scenarios of a part, and the numbers of the commands that are in none: their URL was answered in too many
-    ways."""
+def layers_of(part: Part, supposed: Supposed = PASSING,
+              changes: Changes = NONE) -> tuple[list[Layer], dict[int, str]]:
+    """The scenarios of a part, and of the commands that are in none why, by their numbers."""
     all_rules: list[Rules] = []
     owned: list[set[int]] = []
-    left = []
+    left: dict[int, str] = {}
     for number, command in enumerate(part.commands):
         own = rules_of(command, part.page, supposed, changes)
-        place = next((place for place, rules in enumerate(all_rules) if fits(own, rules)), len(all_rules))
-        if place == MOST_LAYERS:
-            left.append(number)
+        places = (place for place, rules in enumerate(all_rules) if own is not None and fits(own, rules))
+        place = next(places, len(all_rules))
+        if own is None or place == MOST_LAYERS:
+            left[number] = TWO_ANSWERS if own is None else MANY_ANSWERS
             continue
         if place == len(all_rules):
             all_rules.append({})

@@ -4,7 +4,7 @@ from __future__ import annotations
 from dataclasses import dataclass, field
 from typing import Any, Optional
 
-from commands.case import Case
+from commands.case import LOCAL, Case
 from commands.explanations import Explanation
 from commands.urls import scheme_of
 from recorded import errors
@@ -59,7 +59,7 @@ class Cases:
 def failed_of(chain: Chain) -> Optional[Entry]:
     """The entry of a chain that failed in the recording, the request before its preflight; None where none did."""
     entries = [chain.last, *(chain.preflights[number] for number in sorted(chain.preflights))]
-    if scheme_of(chain.url) in ("ws", "wss") and chain.last.status == 101:
+    if scheme_of(chain.url) in LOCAL and not chain.last.error:
         return None
     return next((entry for entry in entries if entry.is_failed), None)
 
@@ -98,8 +98,8 @@ def way_of(case: Case) -> str:
 
 # ---- the verdict
 
-def verdict(command: Command, cases: Cases, browser: str) -> Finding:
-    finding = bare_verdict(command, cases, browser)
+def verdict(command: Command, cases: Cases, tells_errors: bool) -> Finding:
+    finding = bare_verdict(command, cases, tells_errors)
     finding.notes += command.notes
     if finding.verdict in (REFUSED, UNREACHED):
         weigh_credentials(finding, cases)
@@ -109,22 +109,22 @@ def verdict(command: Command, cases: Cases, browser: str) -> Finding:
     return finding
 
 
-def bare_verdict(command: Command, cases: Cases, browser: str) -> Finding:
+def bare_verdict(command: Command, cases: Cases, tells_errors: bool) -> Finding:
     case, failed = cases.plain, failed_of(command.chain)
     if case is None:
         return Finding(command, UNJUDGED, told=cases.problem)
     if case.result.is_fault:
         return Finding(command, UNJUDGED, case, told="no page makes this request, as far as it is recorded")
+    if is_unanswered(case):
+        told = f"the standards ask {case.asked_url}, of which no answer is recorded"
+        return Finding(command, OPEN if failed else UNJUDGED, case, told=told)
     refused = is_refused(case, command)
     if refused and failed:
         return of_refused_failure(command, cases, failed)
     if refused:
-        return of_refused_success(command, case, browser)
+        return of_refused_success(command, case, tells_errors)
     if failed:
-        return of_failure(command, cases, failed, browser)
-    if is_unanswered(case):
-        return Finding(command, UNJUDGED, case,
-                       told=f"the standards ask {case.asked_url}, of which no answer is recorded")
+        return of_failure(command, cases, failed)
     return Finding(command, PASSED, case)
 
 
@@ -156,7 +156,7 @@ def basis(case: Case) -> str:
     return BY_PREFLIGHT if 7 <= case.result.number <= 11 else BY_ANSWER
 
 
-def of_refused_success(command: Command, case: Case, browser: str) -> Finding:
+def of_refused_success(command: Command, case: Case, tells_errors: bool) -> Finding:
     """It looks like a success, and the standards refuse it."""
     is_before = not case.exchanges or case.refused_before
     if is_before and scheme_of(command.chain.url) in ("http", "https") and was_answered(command.chain, case):
@@ -164,9 +164,9 @@ def of_refused_success(command: Command, case: Case, browser: str) -> Finding:
     if 7 <= case.result.number <= 11:
         return Finding(command, PARTED, case,
                        told="the standards refuse it at its preflight, and the request was answered")
-    if case.result.number == 12 and browser == "chromium":
+    if case.result.number == 12 and tells_errors:
         return Finding(command, PARTED, case,
-                       told="Chromium's tools tell an error of each answer that CORS refuses, and none here")
+                       told="the tools tell an error of each answer that CORS refuses, and none here")
     return Finding(command, UNREACHED, case, how_sure=BEFORE if is_before else BY_ANSWER)
 
 
@@ -175,7 +175,7 @@ def was_answered(chain: Chain, case: Case) -> bool:
     return len(case.chain) < len(chain.hops) and not chain.hops[len(case.chain)].is_hidden
 
 
-def of_failure(command: Command, cases: Cases, failed: Entry, browser: str) -> Finding:
+def of_failure(command: Command, cases: Cases, failed: Entry) -> Finding:
     """It failed, and what is recorded lets it pass."""
     case = cases.plain
     if errors.is_orb(failed.error):
