@@ -64,13 +64,14 @@ def unpacked(data: bytes) -> bytes:
     while left:
         machine = zlib.decompressobj(16 + zlib.MAX_WBITS)
         try:
-            pieces.append(machine.decompress(left, LARGEST - size))
+            pieces.append(machine.decompress(left, LARGEST - size + 1))
         except zlib.error:
             raise NoHar(1, 1, "the file begins as gzip does, and is none: export it again") from None
         size += len(pieces[-1])
+        if size > LARGEST:
+            raise NoHar(1, 1, "it has more than 1 GiB, unpacked")
         if not machine.eof:
-            sentence = "it has more than 1 GiB, unpacked" if size >= LARGEST else "the gzip file is cut: copy it again"
-            raise NoHar(1, 1, sentence)
+            raise NoHar(1, 1, "the gzip file is cut: copy it again")
         left = machine.unused_data.lstrip(b"\0")
     return b"".join(pieces)
 

@@ -204,7 +204,8 @@ def of_failure(command: Command, cases: Cases, failed: Entry) -> Finding:
 def data_of(finding: Finding) -> dict[str, Any]:
     command, case, chain = finding.command, finding.case, finding.command.chain
     explanation = explanation_of(case) if case else None
-    is_why = explanation is not None and finding.verdict in (REFUSED, UNREACHED, PARTED)
+    is_told = finding.verdict in (REFUSED, UNREACHED, PARTED) or case is not None and case.result.is_fault
+    is_why = is_told and explanation is not None
     enforced = [one for one in (case.violations if case else []) if one.enforced]
     return {
         "entry": chain.first.number, "entries": [entry.number for entry in chain.entries], "method": chain.first.method,
