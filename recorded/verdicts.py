@@ -85,6 +85,11 @@ def is_unanswered(case: Case) -> bool:
     return case.has_no_rule or (case.answer is not None and case.answer.server is None and case.result.number == 25)
 
 
+def upgrade_of(case: Case) -> Optional[str]:
+    """What has made a URL of it https: hsts, policy or mixed; None where nothing has."""
+    return next(filter(None, map(case.upgrade_of, case.hops)), None)
+
+
 def explanation_of(case: Case) -> Optional[Explanation]:
     """Why a case came to what it came: of a URL that is not played, the policy that refuses it."""
     refusing = [policy for policy in case.policies_told if policy.enforced] if case.verdict == "none" else []
@@ -117,7 +122,7 @@ def bare_verdict(command: Command, cases: Cases, tells_errors: bool) -> Finding:
         return Finding(command, UNJUDGED, case, told="no page makes this request, as far as it is recorded")
     if is_unanswered(case):
         told = f"the standards ask {case.asked_url}, of which no answer is recorded"
-        return Finding(command, OPEN if failed else UNJUDGED, case, told=told)
+        return Finding(command, OPEN if failed else PARTED if upgrade_of(case) else UNJUDGED, case, told=told)
     refused = is_refused(case, command)
     if refused and failed:
         return of_refused_failure(command, cases, failed)
@@ -204,7 +209,8 @@ def of_failure(command: Command, cases: Cases, failed: Entry) -> Finding:
 def data_of(finding: Finding) -> dict[str, Any]:
     command, case, chain = finding.command, finding.case, finding.command.chain
     explanation = explanation_of(case) if case else None
-    is_told = finding.verdict in (REFUSED, UNREACHED, PARTED) or case is not None and case.result.is_fault
+    is_told = finding.verdict in (REFUSED, UNREACHED) or case is not None and (
+        case.result.is_fault or finding.verdict == PARTED and is_refused(case, command))
     is_why = is_told and explanation is not None
     enforced = [one for one in (case.violations if case else []) if one.enforced]
     return {
