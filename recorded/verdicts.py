@@ -18,7 +18,7 @@ INTEGRITY = 22
 BY_ANSWER = "the recorded answer is refused as it stands"
 OTHER = Supposed(other_credentials=True)
 BARE = Supposed(bare=True)
-BEFORE = "nothing is sent: what the page has decides it"
+BEFORE = "nothing is sent: the page's policies and URLs decide it"
 BY_PREFLIGHT = "the recorded answer to the preflight is refused as it stands"
 HIDDEN = "the recording hides the answer"
 WITH_CREDENTIALS = ("asked with credentials this is so, which the recording does not show; without them what is "
@@ -128,6 +128,8 @@ def bare_verdict(command: Command, cases: Cases, tells_errors: bool) -> Finding:
         return of_refused_failure(command, cases, failed)
     if refused:
         return of_refused_success(command, case, tells_errors)
+    if command.chain.is_lone_preflight:
+        return Finding(command, UNJUDGED, case, told="its preflight passes, and the request behind it is not recorded")
     if failed:
         return of_failure(command, cases, failed)
     return Finding(command, PASSED, case)
@@ -151,7 +153,7 @@ def weigh_credentials(finding: Finding, cases: Cases) -> None:
         finding.certainty = "if"
         finding.how_sure += "; it was asked without credentials, or this would pass"
     elif way_of(other) not in ("", way_of(finding.case)):
-        finding.how_sure += f"; had it credentials, which the recording would not show: {other.explanation.condition}"
+        finding.how_sure += f"; had it credentials, which the recording would not show: {explanation_of(other).condition}"
 
 
 def basis(case: Case) -> str:
@@ -217,8 +219,8 @@ def data_of(finding: Finding) -> dict[str, Any]:
         "entry": chain.first.number, "entries": [entry.number for entry in chain.entries], "method": chain.first.method,
         "url": chain.url, "kind": command.kind, "mode": command.asked.mode,
         "credentials": "open" if command.asked.is_open else command.asked.credentials,
-        "recorded": recorded_of(chain), "status": chain.last.status, "failed": failed_of(chain) is not None,
-        "verdict": finding.verdict,
+        "recorded": recorded_of(chain), "status": chain.last.status, "verdict": finding.verdict,
+        "failed": finding.verdict != UNJUDGED and failed_of(chain) is not None,
         "result": case.result.short() if case else None, "certainty": finding.certainty, "how_sure": finding.how_sure,
         "told": finding.told, "rule": finding.rule, "why": explanation.data() if is_why else None,
         "directive": enforced[0].directive if enforced and finding.verdict != PASSED else None,
