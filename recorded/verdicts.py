@@ -153,7 +153,8 @@ def weigh_credentials(finding: Finding, cases: Cases) -> None:
         finding.certainty = "if"
         finding.how_sure += "; it was asked without credentials, or this would pass"
     elif way_of(other) not in ("", way_of(finding.case)):
-        finding.how_sure += f"; had it credentials, which the recording would not show: {explanation_of(other).condition}"
+        condition = explanation_of(other).condition
+        finding.how_sure += f"; had it credentials, which the recording would not show: {condition}"
 
 
 def basis(case: Case) -> str:
