@@ -95,7 +95,7 @@ class Entry:
         else:
             data = text.encode("utf-8", "replace")
         is_cut = isinstance(size, int) and size > len(data) and not self.is_in_another_charset
-        return None if is_cut or (not data and self.content.get("comment")) else data
+        return None if is_cut or not data else data  # of an empty one nothing says that it is not left out
 
     @property
     def is_in_another_charset(self) -> bool:

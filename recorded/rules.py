@@ -60,7 +60,7 @@ def rules_of(command: Command, page: Page, supposed: Supposed, changes: Changes)
     for number, hop in enumerate(chain.hops):
         passing = passing_headers(origin_at(chain, number, origin_of(changes.page_url(page.url)) or ""))
         rule = rule_of(hop, passing + [("Content-Type", TYPES[command.kind])], supposed)
-        if hop is chain.last and command.body:
+        if hop is chain.last and command.body is not None:
             rule["body"] = command.body
         if found.setdefault(key_of(hop.url, hop.method), rule) != rule:
             return None

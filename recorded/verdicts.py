@@ -77,7 +77,8 @@ def is_refused(case: Case, command: Command) -> bool:
 
 def lacks_body(case: Case, command: Command) -> bool:
     """Whether no more than the body, which is not recorded, does not fit."""
-    return case.result.number == INTEGRITY and not case.result.is_fault and not command.body and not case.is_opaque
+    is_integrity = case.result.number == INTEGRITY and not case.result.is_fault
+    return is_integrity and command.body is None and case.has_body and not case.is_opaque
 
 
 def is_unanswered(case: Case) -> bool:
