@@ -3,7 +3,6 @@ from __future__ import annotations
 
 import argparse
 import os
-import re
 from typing import Any
 
 from commands import play_text, running, streams
@@ -12,7 +11,6 @@ from recorded.known_hosts import is_domain
 from recorded import changes, differences, har, judging, redacting, telling, writing
 
 GOOD, BAD, WRONG, FAILED = range(4)
-DOMAIN = re.compile(r"[a-z0-9_-]+(?:\.[a-z0-9_-]+)*\.?")
 
 
 def change(is_set: bool) -> Any:
@@ -26,7 +24,7 @@ def change(is_set: bool) -> Any:
 
 def domain(word: str) -> tuple[str, bool]:
     host, has_subdomains = known_host(word)
-    if not is_domain(host) or not DOMAIN.fullmatch(host):
+    if not is_domain(host):
         raise argparse.ArgumentTypeError("a known host is a domain: no URL, no port, no address, no localhost")
     return host, has_subdomains
 

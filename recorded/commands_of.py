@@ -76,7 +76,12 @@ def url_of(chain: Chain, element: Optional[Element] = None) -> str:
     """The URL as the page has it: that of the element, which an upgrade may have changed. Of a `data:` URL no more is
     looked at than its scheme."""
     url = (element.url if element else chain.url).partition("#")[0]
-    return "data:," if scheme_of(url) == "data" else url.replace("${", "$%7B")
+    return "data:," if scheme_of(url) == "data" else without_templates(url)
+
+
+def without_templates(url: str) -> str:
+    """A URL in whose place a scenario puts nothing."""
+    return url.replace("${", "$%7B")
 
 
 # ---- fetches

@@ -3,6 +3,7 @@ there."""
 from __future__ import annotations
 
 import datetime
+import functools
 import re
 from typing import Any, Optional
 
@@ -25,7 +26,7 @@ def read(data: Any, number: int) -> Entry:
     request = fields.want(data.get("request"), dict, place + ".request")
     response = fields.object_of(data, "response", place)
     method = fields.text_of(request, "method", place + ".request")
-    if not TOKEN.fullmatch(method):
+    if not is_token(method):
         raise Bad(f"{place}.request.method is no method: {method[:40]!r}")
     url = fields.text_of(request, "url", place + ".request").strip()
     if not SCHEME.match(url) or is_without_host(url):
@@ -56,14 +57,26 @@ def page_of(data: dict, place: str) -> Optional[str]:
 def headers_of(data: dict, place: str) -> list[tuple[str, str]]:
     """The headers, a pair for each line: some tools join equal ones by line ends, or by zero bytes. Pseudo headers of
     HTTP/2, as `:path`, are no headers."""
-    found = []
+    found: list[tuple[str, str]] = []
     for index, one in enumerate(fields.list_of(data, "headers", place)):
-        own = f"{place}.headers[{index}]"
-        fields.want(one, dict, own)
-        name, value = fields.text_of(one, "name", own), fields.text_of(one, "value", own)
-        if TOKEN.fullmatch(name):
+        name, value = pair_of(one, f"{place}.headers[{index}]")
+        if not is_token(name):
+            continue
+        if value.isprintable():  # as nearly all are
+            found.append((name, value.strip(" ")))
+        else:
             found += [(name, line.strip("\t ")) for line in BREAKS.split(value)]
     return found
+
+
+def pair_of(data: Any, place: str) -> tuple[str, str]:
+    fields.want(data, dict, place)
+    return fields.text_of(data, "name", place), fields.text_of(data, "value", place)
+
+
+@functools.lru_cache(4096)
+def is_token(name: str) -> bool:
+    return TOKEN.fullmatch(name) is not None
 
 
 def status_of(response: dict, place: str) -> int:

@@ -37,9 +37,10 @@ def list_of(data: dict, key: str, place: str) -> list:
 
 def text_of(data: dict, key: str, place: str) -> str:
     """The text of a required key."""
-    if key not in data:
-        raise Bad(f"{place} has no {key}")
-    return clean(want(data[key], str, f"{place}.{key}"))
+    value = data.get(key)
+    if type(value) is str:
+        return clean(value)
+    raise Bad(f"{place}.{key} is {told(value)}, and a text belongs there" if key in data else f"{place} has no {key}")
 
 
 def any_text(data: dict, *keys: str) -> str:

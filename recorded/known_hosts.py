@@ -1,6 +1,7 @@
 """Which hosts are known to want https (HSTS) by the recording's own answers, at the beginning of a page."""
 from __future__ import annotations
 
+import re
 from collections import namedtuple
 from typing import Any, Optional
 
@@ -10,6 +11,7 @@ from recorded.model import Entry
 
 Known = namedtuple("Known", "host subdomains until")
 Field = namedtuple("Field", "value")
+DOMAIN = re.compile(r"[a-z0-9_-]+(?:\.[a-z0-9_-]+)*\.?")
 LATEST = 2 ** 48 - 1
 LONGEST = 2 ** 32 - 1  # seconds of a max-age that count
 HEADER = "strict-transport-security"
@@ -17,12 +19,11 @@ HEADER = "strict-transport-security"
 
 def noted(entry: Entry) -> Optional[Known]:
     """What an answer makes known, until a time in seconds; None where it makes nothing known."""
-    # RFC 6797, section 8.1: of several fields the first
-    value = next((value for name, value in entry.got if name.lower() == HEADER), None)
-    host = host_of(entry.url)
-    if value is None or not entry.url.startswith("https:") or is_address(host) or not host:
+    values = entry.got_values.get(HEADER)
+    host = host_of(entry.url) if values and entry.url.startswith("https:") else ""
+    if not host or is_address(host):
         return None
-    field = Field(value)
+    field = Field(values[0])  # RFC 6797, section 8.1: of several the first
     names, age = field_of.names(field), field_of.seconds(field)
     is_ignored = not field_of.fits(field) or len(set(names)) < len(names) or field_of.subdomains_value(field)
     if is_ignored or age is None:
@@ -55,5 +56,5 @@ def is_known(host: str, hosts: list[dict[str, Any]]) -> bool:
 
 def is_domain(host: str) -> bool:
     """Whether a scenario takes the host as a known one."""
-    return bool(host) and not is_address(host) and host == host.lower() and host != "localhost" \
-        and not host.endswith(".localhost")
+    is_local = host == "localhost" or host.endswith(".localhost")
+    return DOMAIN.fullmatch(host) is not None and not is_address(host) and not is_local

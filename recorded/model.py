@@ -6,6 +6,7 @@ import base64
 import binascii
 import re
 from dataclasses import dataclass, field
+from functools import cached_property
 from typing import Any, Optional
 
 from commands.scenario import origin_of
@@ -35,15 +36,25 @@ class Entry:
     is_from_cache: bool = False
     is_from_worker: bool = False
 
+    @cached_property
+    def sent_values(self) -> dict[str, list[str]]:
+        return values_by_name(self.sent)
+
+    @cached_property
+    def got_values(self) -> dict[str, list[str]]:
+        return values_by_name(self.got)
+
     def asked(self, name: str) -> Optional[str]:
-        """The value of a request's header."""
-        return joined_values(self.sent, name)
+        """The value of a request's header; None where there is none."""
+        values = self.sent_values.get(name.lower())
+        return ", ".join(values) if values else None
 
     def answered(self, name: str) -> Optional[str]:
-        """The value of a header of the answer."""
-        return joined_values(self.got, name)
+        """The value of a header of the answer; None where there is none."""
+        values = self.got_values.get(name.lower())
+        return ", ".join(values) if values else None
 
-    @property
+    @cached_property
     def origin(self) -> Optional[str]:
         return origin_of(self.url)
 
@@ -186,6 +197,9 @@ class Recording:
     notes: list[str] = field(default_factory=list)
 
 
-def joined_values(headers: list[tuple[str, str]], name: str) -> Optional[str]:
-    values = [value for own, value in headers if own.lower() == name.lower()]
-    return ", ".join(values) if values else None
+def values_by_name(headers: list[tuple[str, str]]) -> dict[str, list[str]]:
+    """The values of each name, in lower case."""
+    found: dict[str, list[str]] = {}
+    for name, value in headers:
+        found.setdefault(name.lower(), []).append(value)
+    return found

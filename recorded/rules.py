@@ -11,7 +11,7 @@ from commands.case import REDIRECTS
 from commands.scenario import origin_of
 from commands.urls import secure
 from recorded.changes import Changes
-from recorded.commands_of import Command
+from recorded.commands_of import Command, without_templates
 from recorded.model import Chain, Entry, Page
 
 # The headers of an answer that the rules of a fetch look at. The others are left out, so that answers which are alike
@@ -62,10 +62,11 @@ def rules_of(command: Command, page: Page, supposed: Supposed, changes: Changes)
         rule = rule_of(hop, passing + [("Content-Type", TYPES[command.kind])], supposed)
         if hop is chain.last and command.body is not None:
             rule["body"] = command.body
-        if found.setdefault(key_of(hop.url, hop.method), rule) != rule:
+        url = hop.url if number else without_templates(hop.url)
+        if found.setdefault(key_of(url, hop.method), rule) != rule:
             return None
         if is_preflightable(command, number):
-            found[key_of(hop.url, "OPTIONS")] = preflight_rule(command, number, passing, supposed)
+            found[key_of(url, "OPTIONS")] = preflight_rule(command, number, passing, supposed)
     if changes.headers:
         for (origin, _, target), rule in found.items():
             rule["headers"] = list(map(list, changes.of_answer(origin + target, rule["headers"])))

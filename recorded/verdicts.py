@@ -168,7 +168,7 @@ def basis(case: Case) -> str:
 def of_refused_success(command: Command, case: Case, tells_errors: bool) -> Finding:
     """It looks like a success, and the standards refuse it."""
     is_before = not case.exchanges or case.refused_before
-    if is_before and scheme_of(command.chain.url) in ("http", "https") and was_answered(command.chain, case):
+    if is_before and scheme_of(command.chain.url) not in LOCAL and was_answered(command.chain, case):
         return Finding(command, PARTED, case, told="the standards send nothing to it, and an answer is recorded")
     if 7 <= case.result.number <= 11:
         return Finding(command, PARTED, case,
@@ -213,8 +213,8 @@ def of_failure(command: Command, cases: Cases, failed: Entry) -> Finding:
 def data_of(finding: Finding) -> dict[str, Any]:
     command, case, chain = finding.command, finding.case, finding.command.chain
     explanation = explanation_of(case) if case else None
-    is_told = finding.verdict in (REFUSED, UNREACHED) or case is not None and (
-        case.result.is_fault or finding.verdict == PARTED and is_refused(case, command))
+    is_told = finding.verdict in (REFUSED, UNREACHED) or case is not None and (case.result.is_fault or (
+        finding.verdict == PARTED and is_refused(case, command) and not is_unanswered(case)))
     is_why = is_told and explanation is not None
     enforced = [one for one in (case.violations if case else []) if one.enforced]
     return {
