@@ -131,12 +131,12 @@ def add_nonce(command: Command, page: Page) -> None:
         return
     if page.html is not None and asked.kind == "script":
         options["parser"] = False
-        asked.guesses.append("that a script has inserted it, since the page's HTML does not have it")
+        asked.guesses.append("taken to be inserted by a script, since the page's HTML does not have it")
     nonces = [nonce for policy in csp.policies(policy_headers(page))
               for nonce in csp.nonces(csp.deciding(policy, csp.EFFECTIVE[asked.kind])[1])]
     if nonces and not command.chain.first.is_hidden:
         options["nonce"] = nonces[0]
-        asked.guesses.append("that its element has the policy's nonce, since it was answered")
+        asked.guesses.append("taken to have the policy's nonce, since it was answered")
 
 
 def policy_headers(page: Page) -> list[tuple[str, str]]:
@@ -153,7 +153,7 @@ def add_integrity(command: Command, page: Page, integrity: str) -> None:
     if command.body is None and not is_opaque:
         command.notes.append(NO_BODY)
     elif not is_opaque and not command.chain.last.is_body_exact:
-        command.asked.guesses.append("that the body's bytes were those that the recording has as a text")
+        command.asked.guesses.append("its bytes are taken to be those of the text that the recording has")
 
 
 def text_of_body(entry: Entry) -> Optional[str]:

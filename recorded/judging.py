@@ -12,8 +12,6 @@ from recorded.plays import Played, played
 from recorded.scenarios import Part, count_of, parts_of
 from recorded.verdicts import BARE, OTHER, Cases, Finding
 
-WORDS = (("refused", "refused"), ("unreached", "answered and never reached the page"), ("failed", "failed"),
-         ("open", "open"), ("parted", "that the standards judge otherwise"), ("unjudged", "not judged"))
 PARTS = ("a page of %d requests is played in %d parts: the preflight cache is empty at the beginning of each")
 
 
@@ -64,11 +62,15 @@ def page_data(page: Page, judged: list[tuple[Part, list[Finding]]], recording: R
     notes = list(page.notes)
     if len(judged) > 1:
         notes.append(PARTS % (len(findings), len(judged)))
+    parted = parting.of_findings(findings, page, recording.browser)
+    rules = {one["entry"]: one["rule"] for one in parted if one["what"] == parting.RESULT}
+    for finding in findings:
+        finding.rule = rules.get(finding.chain.first.number)
     return {
         "url": page.url, "top": page.top, "entry": page.entry.number if page.entry else None,
         "requests": count_of(page.chains) + len(page.left_out), "verdict": verdict_of(findings),
         "findings": [verdicts.data_of(finding) for finding in findings],
-        "parts": parting.of_findings(findings, page, recording.browser),
+        "parts": parted,
         "left_out": [{"entry": entry.number, "url": entry.url, "why": why} for entry, why in page.left_out],
         "notes": notes}
 
@@ -76,11 +78,10 @@ def page_data(page: Page, judged: list[tuple[Part, list[Finding]]], recording: R
 def verdict_of(findings: list[Finding]) -> str:
     """The page's verdict, in a line."""
     counts = Counter(finding.verdict for finding in findings)
-    told = [f"{counts[key]} {words}" for key, words in WORDS if counts[key]]
-    passed = counts[verdicts.PASSED]
+    told = [f"{counts[key]} {words}" for key, words in verdicts.WORDS.items() if counts[key]]
     if not told:
-        return f"all {passed} passed" if passed else "it asked for nothing that is played"
-    return ", ".join([*told, f"{passed} passed"])
+        return "all passed" if findings else "it asked for nothing that is played"
+    return ", ".join([*told, f"{counts[verdicts.PASSED]} passed"])
 
 
 def fails(found: dict[str, Any]) -> bool:

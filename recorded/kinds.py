@@ -31,8 +31,9 @@ ENDINGS = {"css": "style", "js": "script", "mjs": "script", "webmanifest": "mani
            **dict.fromkeys(("mp3", "ogg", "oga", "wav", "m4a", "flac", "aac"), "audio")}
 NAVIGATION = "text/html,application/xhtml+xml"  # as browsers' Accept begins where they open a page
 ENDING = re.compile(r"\.([A-Za-z0-9]+)$")
+ARTICLES = {"image": "an", "audio": "an"}
 MODES = ("cors", "no-cors", "same-origin")
-WITHOUT = "that it is asked without credentials, since no cookie went along"
+WITHOUT = "taken to be asked without credentials, since no cookie went along"
 
 
 @dataclass
@@ -85,19 +86,19 @@ def guessed(entry: Entry) -> tuple[str, str]:
     accept = (entry.asked("Accept") or "").lower()
     is_plain = entry.method in ("GET", "POST") and entry.asked("X-Requested-With") is None
     if is_plain and (accept.startswith(NAVIGATION) or entry.asked("Upgrade-Insecure-Requests") == "1"):
-        return DOCUMENT, "the headers of a navigation"
+        return DOCUMENT, "by the headers of a navigation"
     if is_scripted(entry):
-        return FETCH, "its method or headers, which elements do not send"
+        return FETCH, "by its method or headers, which no element sends"
     found = next((kind for start, kind in ACCEPTS if accept.startswith(start)), None)
     if found:
-        return found, "Accept"
+        return found, "by its Accept"
     content = (entry.answered("Content-Type") or "").lower()
     found = next((kind for start, kind in CONTENTS if content.startswith(start)), None)
     if found:
-        return found, "the type of its answer"
+        return found, "by the type of its answer"
     ending = ENDING.search(entry.bare_url.partition("?")[0])
     kind = ENDINGS.get(ending.group(1).lower()) if ending else None
-    return (kind, "the end of its name") if kind else (FETCH, "nothing that says otherwise")
+    return (kind, "by the end of its name") if kind else (FETCH, "since nothing says otherwise")
 
 
 def is_scripted(entry: Entry) -> bool:
@@ -110,7 +111,7 @@ def asked_of(chain: Chain, page_url: str, html: Optional[Html]) -> Asked:
     kind, reason = kind_of(entry, html)
     if chain.preflights or entry.method != "GET" and kind in LOADS:  # which no element sends
         kind, reason = FETCH, None
-    guesses = [f"that it is a {kind}, by {reason}"] if reason else []
+    guesses = [f"taken for {ARTICLES.get(kind, 'a')} {kind}, {reason}"] if reason else []
     element = html.elements.get(entry.bare_url) if html else None
     element = element if element and element.kind == kind else None
     mode = (entry.asked("Sec-Fetch-Mode") or "").lower()
@@ -139,6 +140,6 @@ def of_fetch(chain: Chain, asked: Asked, mode: str, page_url: str) -> Asked:
     foreign = [hop for hop in chain.hops if hop.origin != origin_of(page_url)]
     if any(hop.has_cookies for hop in foreign) or asked.mode == "no-cors":
         asked.credentials = "include"
-    elif foreign and asked.kind == FETCH:
+    elif foreign and asked.kind == FETCH and scheme_of(entry.url) in ("http", "https"):
         asked.is_open = True
     return asked

@@ -2,17 +2,18 @@
 to change, and how sure that is."""
 from __future__ import annotations
 
-from typing import Any, Iterator
+from typing import Any, Iterator, Optional
 
 from commands.summaries import shown
 from recorded.kinds import WITHOUT
+from recorded.verdicts import BEFORE, WORDS
 
 MOST = 20  # lines of a kind
-NAMES = {"refused": "refused", "unreached": "never reached the page", "failed": "failed", "open": "open",
-         "parted": "parted", "unjudged": "not judged"}
-TOLD = tuple(NAMES)
+TOLD = tuple(WORDS)
 KINDS = {"broken": "would be refused", "goes with it": "would not be asked any more", "reported": "would be reported",
          "mended": "would be mended", "upgraded": "would be asked over https"}
+BY = {"broken": "would be refused by {}", "reported": "would be reported by {}",
+      "mended": "would pass, which {} refuses now"}
 SURE = {"sure": "sure", "if": "likely", "supposed": "supposed"}
 
 
@@ -52,11 +53,13 @@ def finding_lines(finding: dict[str, Any], is_brief: bool) -> Iterator[str]:
     why = finding["why"]
     said = why["condition"] if why and finding["verdict"] != "parted" else finding["told"]
     change = f"; {why['change']}" if why and is_brief and finding["verdict"] != "parted" else ""
-    yield f"  {NAMES[finding['verdict']]}: {name_of(finding)}: {said}{change}"
+    yield f"  {WORDS[finding['verdict']]}: {name_of(finding)}: {said}{change}"
     if is_brief:
         return
     if why:
         yield from why_lines(finding, why)
+    if finding["verdict"] == "parted":
+        yield "    " + rule_of(finding["rule"])
     if finding["how_sure"]:
         yield f"    {SURE[finding['certainty']]}: {finding['how_sure']}"
     yield f"    recorded: entry {finding['entry']}, {finding['recorded']}"
@@ -87,12 +90,13 @@ def rest_of_page(page: dict[str, Any]) -> Iterator[str]:
     """Where recording and standards part, what was guessed, and what was left out."""
     errors = [one for one in page["findings"] if one["verdict"] == "passed" and one["status"] >= 400]
     yield from some(errors, lambda one: f"  answered with {one['status']}, and the page saw it: {name_of(one)}")
-    yield from some(page["parts"], part_line)
+    yield from some([one for one in page["parts"] if one["what"] != "result"], part_line)
     guesses = [(one, guess) for one in page["findings"] for guess in one["guesses"] if guess != WITHOUT]
-    open_ones = sum(WITHOUT in one["guesses"] for one in page["findings"])
+    open_ones = [one for one in page["findings"]
+                 if WITHOUT in one["guesses"] and not one["how_sure"].startswith(BEFORE)]
     if open_ones:
-        yield f"  guessed of {count(open_ones, 'request')} to other origins: {WITHOUT}"
-    yield from some(guesses, lambda pair: f"  guessed of entry {pair[0]['entry']}, {name_of(pair[0])}: {pair[1]}")
+        yield f"  guessed: {count(len(open_ones), 'request')} to other origins {WITHOUT}"
+    yield from some(guesses, lambda pair: f"  guessed: entry {pair[0]['entry']}, {name_of(pair[0])}: {pair[1]}")
     notes = [(one, note) for one in page["findings"] for note in one["notes"] if one["verdict"] == "passed"]
     yield from some(notes, lambda pair: f"  note: entry {pair[0]['entry']}, {name_of(pair[0])}: {pair[1]}")
     yield from some(page["left_out"],
@@ -101,9 +105,12 @@ def rest_of_page(page: dict[str, Any]) -> Iterator[str]:
 
 
 def part_line(part: dict[str, Any]) -> str:
-    rule = f"docs/BROWSERS.md, `{part['rule']}`" if part["rule"] else "open: no rule of docs/BROWSERS.md explains it"
-    return (f"  parts: entry {part['entry']}, {shown(part['url'])}: {part['what']}: "
-            f"the standards have {part['standard']}, and the recording {part['browser']} ({rule})")
+    return (f"  parts: entry {part['entry']}, {shown(part['url'])}: {part['what']}: the standards have "
+            f"{part['standard']}, and the recording {part['browser']} ({rule_of(part['rule'])})")
+
+
+def rule_of(rule: Optional[str]) -> str:
+    return f"rule: docs/BROWSERS.md, `{rule}`" if rule else "open: no rule of docs/BROWSERS.md explains it"
 
 
 def some(found: list, line_of: Any) -> Iterator[str]:
@@ -128,8 +135,8 @@ def changed_lines(found: dict[str, Any], is_brief: bool) -> Iterator[str]:
         yield f"  note: the page {shown(moved['from'])} would itself be {shown(moved['to'])}"
     for group in found["groups"]:
         own = [found["differences"][place] for place in group["differences"]]
-        what = f" by {group['directive']}" if group["directive"] and group["kind"] != "upgraded" else ""
-        yield f"  {count(group['count'], 'request')} to {group['host']} {KINDS[group['kind']]}{what}"
+        what = BY.get(group["kind"], KINDS[group["kind"]]).format(group["directive"])
+        yield f"  {count(group['count'], 'request')} to {group['host']} {what}"
         if not is_brief:
             yield from some(own, difference_line)
     yield from bad_lines(found)

@@ -14,6 +14,8 @@ from recorded.rules import PASSING, Supposed
 
 PASSED, REFUSED, UNREACHED, FAILED, OPEN, PARTED, UNJUDGED = (
     "passed", "refused", "unreached", "failed", "open", "parted", "unjudged")
+WORDS = {REFUSED: "refused", UNREACHED: "never reached the page", FAILED: "failed", OPEN: "open", PARTED: "parted",
+         UNJUDGED: "not judged"}
 INTEGRITY = 22
 BY_ANSWER = "the recorded answer is refused as it stands"
 OTHER = Supposed(other_credentials=True)
@@ -37,7 +39,7 @@ class Finding:
     certainty: str = "sure"
     how_sure: str = ""
     told: str = ""  # where no case explains it
-    rule: str = ""  # of docs/BROWSERS.md
+    rule: Optional[str] = None  # of docs/BROWSERS.md, that explains why browser and standards part
     supposed: Supposed = PASSING  # how the case was played
     notes: list[str] = field(default_factory=list)
 
@@ -111,7 +113,7 @@ def verdict(command: Command, cases: Cases, tells_errors: bool) -> Finding:
         weigh_credentials(finding, cases)
     if finding.verdict in (REFUSED, UNREACHED) and finding.certainty == "sure" and command.asked.guesses:
         finding.certainty = "if"
-        finding.how_sure += "; guessed is " + ", and ".join(command.asked.guesses)
+        finding.how_sure += "; " + ", and ".join(command.asked.guesses)
     return finding
 
 
@@ -188,8 +190,7 @@ def of_failure(command: Command, cases: Cases, failed: Entry) -> Finding:
     """It failed, and what is recorded lets it pass."""
     case = cases.plain
     if errors.is_orb(failed.error):
-        return Finding(command, PARTED, case, told="opaque response blocking kept it back, which is not played here",
-                       rule="opaque-response-blocking")
+        return Finding(command, PARTED, case, told="opaque response blocking kept it back, which is not played here")
     told = errors.of_network(failed.error) or errors.other(failed.error)
     if told:
         return Finding(command, FAILED, told=f"{told} ({failed.error})")
