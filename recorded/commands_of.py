@@ -158,7 +158,7 @@ def add_integrity(command: Command, page: Page, integrity: str) -> None:
 
 def text_of_body(entry: Entry) -> Optional[str]:
     """The body as a scenario can have it; None where it is not recorded whole, too long, or no UTF-8."""
-    body = entry.body
+    body = entry.whole_body
     if body is None or len(body) > LARGEST_BODY:
         return None
     try:

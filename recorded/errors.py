@@ -13,6 +13,7 @@ NETWORK = [
      "the bytes of the answer were faulty"),
 ]
 ABORTED = re.compile(r"ERR_ABORTED|BINDING_ABORTED|^cancel", re.I)
+EMBEDDER = re.compile(r"COEP|DefaultedToSameOrigin", re.I)
 OUTSIDE = re.compile(r"BLOCKED_BY_CLIENT|BLOCKED_BY_ADMINISTRATOR|BLOCKED_BY_FINGERPRINT|TRACKING_URI|MALWARE|PHISHING")
 ORB = re.compile(r"BLOCKED_BY_ORB")
 
@@ -28,6 +29,8 @@ def other(error: str) -> Optional[str]:
         return "the page gave it up, or was left before the answer came"
     if OUTSIDE.search(error):
         return "an extension or a setting of the browser blocked it"
+    if EMBEDDER.search(error):
+        return "the page's Cross-Origin-Embedder-Policy kept it back, which is not played here"
     return None
 
 

@@ -4,14 +4,11 @@ from __future__ import annotations
 
 import base64
 import binascii
-import re
 from dataclasses import dataclass, field
 from functools import cached_property
 from typing import Any, Optional
 
 from commands.scenario import origin_of
-
-CHARSET = re.compile(r"charset=\"?([\w.:-]+)", re.I)
 
 
 @dataclass
@@ -94,8 +91,8 @@ class Entry:
 
     @property
     def body(self) -> Optional[bytes]:
-        """The body's bytes, decoded from what was sent; None where they are not recorded whole."""
-        text, size = self.content.get("text"), self.content.get("size")
+        """The body's bytes, without the codings of the answer; None where they are not recorded."""
+        text = self.content.get("text")
         if not isinstance(text, str):
             return None
         if self.content.get("encoding") == "base64":
@@ -105,18 +102,19 @@ class Entry:
                 return None
         else:
             data = text.encode("utf-8", "replace")
-        is_cut = isinstance(size, int) and size > len(data) and not self.is_in_another_charset
-        return None if is_cut or not data else data  # of an empty one nothing says that it is not left out
+        return data or None  # of an empty one nothing says that it is not left out
 
     @property
-    def is_in_another_charset(self) -> bool:
-        found = CHARSET.search(self.answered("Content-Type") or "")
-        return found is not None and found.group(1).lower() not in ("utf-8", "utf8", "us-ascii")
+    def whole_body(self) -> Optional[bytes]:
+        """The same, where it is as long as the recording says: a text that was decoded or cut is not."""
+        data, size = self.body, self.content.get("size")
+        return data if data is not None and size in (None, -1, len(data)) else None
 
     @property
     def is_body_exact(self) -> bool:
-        """Whether the body's bytes are surely those that came: a text may have been decoded."""
-        return self.content.get("encoding") == "base64" or str(self.content.get("text", "")).isascii()
+        """Whether the body's bytes are surely those that came, and not those of a text that was decoded."""
+        is_plain = self.content.get("encoding") == "base64" or str(self.content.get("text", "")).isascii()
+        return is_plain and self.content.get("size") is not None
 
 
 @dataclass(frozen=True)

@@ -4,20 +4,15 @@ from __future__ import annotations
 from typing import Optional
 
 from commands.scenario import origin_of
-from commands.urls import host_of, scheme_of, without_user_info
-from recorded import elements, kinds
+from commands.urls import host_of, without_user_info
+from recorded import elements, kinds, unplayed
 from recorded.chains import chains_of
 from recorded.known_hosts import LATEST, Book, is_domain, is_known
 from recorded.model import Chain, Entry, Page, Recording
 
-LONGEST_URL = 8192
-LOADED = ("http", "https", "data", "blob", "ws", "wss")
+UPGRADE = "upgrade-insecure-requests"
 UNKNOWN = "the page's own answer is not recorded, so its policies are not known"
 NO_HTML = "the page's body is not recorded: policies of its meta elements, nonces and integrity texts are not known"
-NOT_PLAYED = {
-    kinds.FRAME: "the navigation of a frame, which is not played",
-    kinds.DOCUMENT: "a navigation, which is not played",
-}
 
 
 def add(recording: Recording, titles: dict[str, str], entries: list[Entry]) -> None:
@@ -46,21 +41,21 @@ class Group:
     def take(self, chain: Chain) -> None:
         """Takes the next chain: a document of its own, or what one of the documents asked for."""
         page = self.owner_of(chain.first) if self.pages else None
-        kind, _ = kinds.kind_of(chain.first, page.html if page else None)
+        html = page.html if page else None
+        kind, _ = kinds.kind_of(chain.first, html)
+        why = None if chain.is_known_host else unplayed.reason(chain.first, kind, html)
         is_below = kind == kinds.DOCUMENT and self.top is not None and is_within(chain.first, self.top)
         is_frame = kind == kinds.FRAME or is_below
-        if self.is_document(chain, kind) and not is_frame:
+        if why is None and self.is_document(chain, kind) and not is_frame:
             self.top = self.add(document_of(chain))
             return
         page = page or self.unrecorded(chain.first)
-        if is_frame and origin_of(chain.last.url):
-            self.add(document_of(chain, page.top or page.url))
-            page.left_out.append((chain.first, NOT_PLAYED[kinds.FRAME]))
-        elif kind in (*kinds.LOADS, kinds.FETCH) and self.why_left(chain) is None:
+        if why is None and kind in (*kinds.LOADS, kinds.FETCH):
             page.chains.append(chain)
-        else:
-            why = NOT_PLAYED.get(kind) or self.why_left(chain) or f"what is loaded as {kind} is not played"
-            page.left_out.append((chain.first, why))
+            return
+        page.left_out.append((chain.first, why or unplayed.FRAME))
+        if why is None and origin_of(chain.last.url):
+            self.add(document_of(chain, page.top or page.url))
 
     def is_document(self, chain: Chain, kind: str) -> bool:
         """Whether a chain is the page itself; where nothing says what it is, the first that is the page's URL or
@@ -71,15 +66,6 @@ class Group:
         is_first = self.top is None and chain.first.asked("Sec-Fetch-Dest") is None and not chain.first.resource_type
         is_own = self.title.partition("#")[0] in [hop.bare_url for hop in chain.hops]
         return kind == kinds.DOCUMENT or (is_first and chain.first.method == "GET" and (is_own or is_html))
-
-    @staticmethod
-    def why_left(chain: Chain) -> Optional[str]:
-        """Why no scenario can have a chain; None where one can."""
-        scheme = scheme_of(chain.url)
-        if scheme not in LOADED:
-            return f"a URL of the scheme {scheme}, which is not played"
-        is_long = scheme not in ("data", "blob") and len(chain.url) > LONGEST_URL
-        return f"its URL has more than {LONGEST_URL:,} characters, which no scenario takes" if is_long else None
 
     def add(self, page: Page) -> Page:
         self.pages.append(page)
@@ -151,8 +137,18 @@ def add_upgraded(page: Page) -> None:
     book = Book()
     for chain in page.chains:
         host = host_of(chain.url)
-        if chain.is_known_host and is_domain(host) and not is_known(host, page.hsts + book.at(chain.first.started)):
+        is_upgraded = chain.is_known_host or is_upgraded_alone(chain.first, page)
+        if is_upgraded and is_domain(host) and not is_known(host, page.hsts + book.at(chain.first.started)):
             page.hsts.append({"host": host, "subdomains": False, "until": LATEST})
-            page.notes.append(f"{host} was a known host (HSTS) before the recording: the browser upgraded it itself")
+            page.notes.append(f"{host} is taken for a known host (HSTS): the browser made its URL https by itself")
         for entry in chain.entries:
             book.add(entry)
+
+
+def is_upgraded_alone(entry: Entry, page: Page) -> bool:
+    """Whether a page over http names an http URL, and https was asked, though no policy of the page says so."""
+    element = page.html.elements.get(entry.bare_url) if page.html else None
+    if element is None or not element.url.startswith("http:") or not page.url.startswith("http:"):
+        return False
+    policies = [page.entry.answered("Content-Security-Policy") or "", *page.html.policies]
+    return entry.url.startswith("https:") and not any(UPGRADE in policy for policy in policies)
