@@ -55,7 +55,7 @@ def lone(preflight: Entry) -> Chain:
     names = [name for name in (preflight.asked("Access-Control-Request-Headers") or "").split(",") if name.strip()]
     sent = [pair for pair in preflight.sent if pair[0].lower() in ("origin", "referer", "user-agent")]
     request = Entry(preflight.number, preflight.page, preflight.started,
-                    preflight.asked("Access-Control-Request-Method") or "GET", preflight.url,
+                    preflight.asked("Access-Control-Request-Method") or "GET", preflight.url, preflight.origin,
                     sent + [(name.strip(), "x") for name in names], 0, [], initiator=preflight.initiator)
     return Chain([request], {0: preflight}, preflight.url, is_lone_preflight=True)
 

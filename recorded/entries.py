@@ -29,13 +29,15 @@ def read(data: Any, number: int) -> Entry:
     if not is_token(method):
         raise Bad(f"{place}.request.method is no method: {method[:40]!r}")
     url = fields.text_of(request, "url", place + ".request").strip()
-    if not SCHEME.match(url) or is_without_host(url):
+    origin = origin_of(url)
+    if not SCHEME.match(url) or origin is None and is_without_host(url):
         raise Bad(f"{place}.request.url is no whole URL: {url[:80]!r}")
     sent = headers_of(request, place + ".request")
     cookies = fields.list_of(request, "cookies", place + ".request")
     return Entry(
         number=number, page=page_of(data, place), started=time_of(data.get("startedDateTime")), method=method, url=url,
-        sent=sent, status=status_of(response, place + ".response"), got=headers_of(response, place + ".response"),
+        origin=origin, sent=sent, status=status_of(response, place + ".response"),
+        got=headers_of(response, place + ".response"),
         content=fields.object_of(response, "content", place + ".response"), error=error_of(data, request, response),
         resource_type=fields.any_text(data, "_resourceType", "_request_type", "_resource_type").lower(),
         initiator=initiator_of(data), redirect=fields.any_text(response, "redirectURL"),
@@ -45,8 +47,8 @@ def read(data: Any, number: int) -> Entry:
 
 def is_without_host(url: str) -> bool:
     """Whether a URL of a scheme that has hosts has none that can be read."""
-    is_of_host = scheme_of(url) in ("http", "https", "ws", "wss")
-    return is_of_host and origin_of(re.sub("^ws", "http", url, flags=re.I)) is None
+    scheme = scheme_of(url)
+    return scheme in ("http", "https") or scheme in ("ws", "wss") and origin_of("http" + url[2:]) is None
 
 
 def page_of(data: dict, place: str) -> Optional[str]:

@@ -1,6 +1,7 @@
 """Which hosts are known to want https (HSTS) by the recording's own answers, at the beginning of a page."""
 from __future__ import annotations
 
+import functools
 import re
 from collections import namedtuple
 from typing import Any, Optional
@@ -23,12 +24,17 @@ def noted(entry: Entry) -> Optional[Known]:
     host = host_of(entry.url) if values and entry.url.startswith("https:") else ""
     if not host or is_address(host):
         return None
-    field = Field(values[0])  # RFC 6797, section 8.1: of several the first
+    said = said_by(values[0])  # RFC 6797, section 8.1: of several the first
+    return None if said is None else Known(host, said[1], (entry.started or 0) + said[0])
+
+
+@functools.lru_cache(1024)
+def said_by(value: str) -> Optional[tuple[int, bool]]:
+    """The age that a field says, and whether subdomains are with it; None where it is ignored."""
+    field = Field(value)
     names, age = field_of.names(field), field_of.seconds(field)
     is_ignored = not field_of.fits(field) or len(set(names)) < len(names) or field_of.subdomains_value(field)
-    if is_ignored or age is None:
-        return None
-    return Known(host, "includesubdomains" in names, (entry.started or 0) + min(age, LONGEST))
+    return None if is_ignored or age is None else (min(age, LONGEST), "includesubdomains" in names)
 
 
 class Book:

@@ -21,6 +21,7 @@ class Entry:
     started: Optional[float]
     method: str
     url: str
+    origin: Optional[str]
     sent: list[tuple[str, str]]
     status: int
     got: list[tuple[str, str]]
@@ -50,10 +51,6 @@ class Entry:
         """The value of a header of the answer; None where there is none."""
         values = self.got_values.get(name.lower())
         return ", ".join(values) if values else None
-
-    @cached_property
-    def origin(self) -> Optional[str]:
-        return origin_of(self.url)
 
     @property
     def bare_url(self) -> str:

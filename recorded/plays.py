@@ -5,10 +5,13 @@ from __future__ import annotations
 import json
 import re
 from dataclasses import dataclass, field
+from functools import cached_property
 from typing import Any, Optional
 
-from commands import play_text, running, told
+from commands import answers, play_text, running
 from commands.case import Case
+from commands.explanations import Explanation, PolicyExplanation, explain, explain_policies
+from commands.notes import notes
 from commands.scenario import Scenario
 from recorded.changes import NONE, Changes
 from recorded.rules import PASSING, Supposed
@@ -21,6 +24,23 @@ MOST_TRIES = 12
 NO_SCENARIO = "no scenario can have it, at %s"
 NO_PAGE = "its page is none that a scenario can have"
 TOO_LONG = "the play of its page ended before it"
+
+
+class PlayedCase(Case):
+    """A case that is explained where it is asked why: most of a recording pass, and nobody asks."""
+
+    @cached_property
+    def explanation(self) -> Optional[Explanation]:
+        return explain(self)
+
+    @cached_property
+    def policies_told(self) -> list[PolicyExplanation]:
+        return explain_policies(self) if self.violations else []
+
+    @cached_property
+    def notes(self) -> list[str]:
+        is_plain = self.command.is_load and len(self.exchanges) == 1 and self.command.url.startswith("https:")
+        return [] if is_plain else notes(self)
 
 
 @dataclass
@@ -64,8 +84,11 @@ def play_layer(layer: Layer, found: Played) -> None:
 
 
 def cases_of(data: dict[str, Any]) -> list[Case]:
-    play = play_text.read(running.played(json.dumps(data).encode("ascii")))
-    return told.scripted(Scenario(None, data), play).cases
+    """What each command of a scenario comes to."""
+    scenario, play = Scenario(None, data), play_text.read(running.played(json.dumps(data).encode("ascii")))
+    scenario.attach(play)
+    sent = [[(request, answers.scripted(scenario, request)) for request in fetch.of("send")] for fetch in play.fetches()]
+    return [PlayedCase(scenario, fetch, exchanges) for fetch, exchanges in zip(play.fetches(), sent)]
 
 
 def without(data: dict[str, Any], place: str, numbers: list[int]) -> Optional[int]:

@@ -2,6 +2,7 @@
 where they are not."""
 from __future__ import annotations
 
+import re
 from dataclasses import dataclass
 from typing import Any, Optional
 from urllib.parse import quote, urlsplit
@@ -23,6 +24,7 @@ READ = ("access-control-allow-origin", "access-control-allow-credentials", "acce
 TYPES = {"script": "text/javascript", "style": "text/css", "font": "font/woff2", "image": "image/png",
          "audio": "audio/mpeg", "video": "video/mp4", "manifest": "application/manifest+json",
          "fetch": "application/json"}
+PLAIN_TARGET = re.compile(r"https?://[^/?#]+(/[\w/.~!$&()*+,;=:@%-]*(?:\?[\w/.~!$&()*+,;=:@%?-]*)?)", re.A)
 # What the URL Standard leaves as it is in a path, and in a query.
 IN_PATH = "/%:@!$&'()*+,;=~-._|^[]{}\\"
 IN_QUERY = "/%:@!$&()*+,;=~-._|^[]{}\\?`"
@@ -44,6 +46,9 @@ PASSING = Supposed()
 
 def target_of(url: str) -> str:
     """The request target of a URL, as a play prints it."""
+    plain = PLAIN_TARGET.fullmatch(url)
+    if plain:
+        return plain.group(1)
     parts = urlsplit(url)
     path, query = quote(parts.path or "/", safe=IN_PATH), quote(parts.query, safe=IN_QUERY)
     return f"{path}?{query}" if "?" in url.partition("#")[0] else path

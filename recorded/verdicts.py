@@ -213,11 +213,9 @@ def of_failure(command: Command, cases: Cases, failed: Entry) -> Finding:
 
 def data_of(finding: Finding) -> dict[str, Any]:
     command, case, chain = finding.command, finding.case, finding.command.chain
-    explanation = explanation_of(case) if case else None
-    is_told = finding.verdict in (REFUSED, UNREACHED) or case is not None and (case.result.is_fault or (
-        finding.verdict == PARTED and is_refused(case, command) and not is_unanswered(case)))
-    is_why = is_told and explanation is not None
-    enforced = [one for one in (case.violations if case else []) if one.enforced]
+    explanation = explanation_of(case) if is_explained(finding) else None
+    violations = case.violations if case and case.fetch.of("violation") or explanation else []
+    enforced = [one for one in violations if one.enforced]
     return {
         "entry": chain.first.number, "entries": [entry.number for entry in chain.entries], "method": chain.first.method,
         "url": chain.url, "kind": command.kind, "mode": command.asked.mode,
@@ -225,11 +223,20 @@ def data_of(finding: Finding) -> dict[str, Any]:
         "recorded": recorded_of(chain), "status": chain.last.status, "verdict": finding.verdict,
         "failed": finding.verdict != UNJUDGED and failed_of(chain) is not None,
         "result": case.result.short() if case else None, "certainty": finding.certainty, "how_sure": finding.how_sure,
-        "told": finding.told, "rule": finding.rule, "why": explanation.data() if is_why else None,
+        "told": finding.told, "rule": finding.rule, "why": explanation.data() if explanation else None,
         "directive": enforced[0].directive if enforced and finding.verdict != PASSED else None,
-        "policies": [policy.data() for policy in case.policies_told if policy is not explanation] if case else [],
+        "policies": [policy.data() for policy in case.policies_told if policy is not explanation] if violations else [],
         "guesses": command.asked.all_guesses,
         "notes": list(dict.fromkeys(finding.notes + (case.notes if case else [])))}
+
+
+def is_explained(finding: Finding) -> bool:
+    """Whether a case says why."""
+    case = finding.case
+    if case is None or finding.verdict in (REFUSED, UNREACHED):
+        return case is not None
+    is_parted = finding.verdict == PARTED and is_refused(case, finding.command) and not is_unanswered(case)
+    return is_parted or case.result.is_fault
 
 
 def recorded_of(chain: Chain) -> str:
