@@ -2,6 +2,7 @@
 from __future__ import annotations
 
 import argparse
+import gc
 import os
 from typing import Any
 
@@ -81,6 +82,7 @@ def changes_of(given: argparse.Namespace) -> changes.Changes:
 
 def main(self: str, words: list[str]) -> int:
     given = read_words(self, words)
+    gc.disable()  # nearly all that is made stays to the end, and looking through it again and again doubles the time
     name = given.recording or "standard input"
     if given.recording and os.path.isdir(given.recording):
         return streams.complain(WRONG, f"{self}: {name} is a folder: name a HAR file in it")
