@@ -1,6 +1,7 @@
 """Puts entries together: the hops of a redirect, and each preflight with the request that it asks for."""
 from __future__ import annotations
 
+import bisect
 from typing import Optional
 
 from commands.case import REDIRECTS
@@ -8,52 +9,60 @@ from commands.scenario import joined
 from commands.urls import secure
 from recorded.model import Chain, Entry
 
+# Headers of a preflight that its request has, or that say what it is for.
+KEPT = ("origin", "referer", "user-agent", "access-control-request-private-network",
+        "access-control-request-local-network")
+
 
 def chains_of(entries: list[Entry]) -> list[Chain]:
     """All chains, in the order of their first requests."""
-    preflights = [entry for entry in entries if entry.is_preflight]
-    owners = owners_of(preflights, [entry for entry in entries if not entry.is_preflight])
+    owners = owners_of(entries)
     chains = redirected([entry for entry in entries if not entry.is_preflight])
     by_hop = {id(hop): (chain, number) for chain in chains for number, hop in enumerate(chain.hops)}
-    for preflight in preflights:
+    for preflight in entries:
         owner = owners.get(preflight.number)
-        if owner is None:
-            chains.append(lone(preflight))
-        else:
+        if owner is not None:
             chain, number = by_hop[id(owner)]
             chain.preflights[number] = preflight
+        elif preflight.is_preflight:
+            chains.append(lone(preflight))
     order = {entry.number: place for place, entry in enumerate(entries)}
     return sorted(map(without_internal, chains), key=lambda chain: min(order[one.number] for one in chain.entries))
 
 
 # ---- preflights
 
-def owners_of(preflights: list[Entry], others: list[Entry]) -> dict[int, Entry]:
+def owners_of(entries: list[Entry]) -> dict[int, Entry]:
     """The request that each preflight asks for, by the preflight's number: the nearest of its URL and method that has
     none yet. Firefox has it before the OPTIONS, since it began first, and others behind."""
-    by_key: dict[tuple[str, str], list[Entry]] = {}
-    for entry in others:
-        by_key.setdefault((entry.bare_url, entry.method), []).append(entry)
+    places: dict[tuple[str, str], list[int]] = {}
+    methods: dict[str, list[str]] = {}
+    for place, entry in enumerate(entries):
+        if not entry.is_preflight:
+            places.setdefault((entry.bare_url, entry.method), []).append(place)
+            methods.setdefault(entry.bare_url, []).append(entry.method)
     found: dict[int, Entry] = {}
-    for preflight in preflights:
-        left = by_key.get((preflight.bare_url, preflight.asked("Access-Control-Request-Method") or ""), [])
-        left = left if left or preflight.asked("Access-Control-Request-Method") else of_url(by_key, preflight)
-        if left:
-            nearest = min(left, key=lambda entry: (abs(entry.number - preflight.number), entry.number))
-            left.remove(nearest)
-            found[preflight.number] = nearest
+    for place, entry in enumerate(entries):
+        if entry.is_preflight:
+            asked = entry.asked("Access-Control-Request-Method")
+            named = methods.get(entry.bare_url, []) if asked is None else [asked]
+            left = next(filter(None, (places.get((entry.bare_url, method)) for method in named)), [])
+            if left:
+                found[entry.number] = entries[taken_nearest(left, place)]
     return found
 
 
-def of_url(by_key: dict[tuple[str, str], list[Entry]], preflight: Entry) -> list[Entry]:
-    """The requests of a preflight's URL, where it does not say for which method it asks."""
-    return next((own for (url, _), own in by_key.items() if url == preflight.bare_url and own), [])
+def taken_nearest(places: list[int], place: int) -> int:
+    """Takes the nearest of places that are in order; of two as near the earlier one."""
+    at = bisect.bisect(places, place)
+    is_before = at == len(places) or at > 0 and place - places[at - 1] <= places[at] - place
+    return places.pop(at - 1 if is_before else at)
 
 
 def lone(preflight: Entry) -> Chain:
     """A preflight whose request is not recorded: that stands for it, without an answer."""
     names = [name for name in (preflight.asked("Access-Control-Request-Headers") or "").split(",") if name.strip()]
-    sent = [pair for pair in preflight.sent if pair[0].lower() in ("origin", "referer", "user-agent")]
+    sent = [pair for pair in preflight.sent if pair[0].lower() in KEPT]
     request = Entry(preflight.number, preflight.page, preflight.started,
                     preflight.asked("Access-Control-Request-Method") or "GET", preflight.url, preflight.origin,
                     sent + [(name.strip(), "x") for name in names], 0, [], initiator=preflight.initiator)

@@ -1,11 +1,13 @@
 """Makes of a chain the command that a page's script would give: a fetch or a load, as a scenario has it."""
 from __future__ import annotations
 
+import json
 import re
 from dataclasses import dataclass, field, replace
-from typing import Any, Optional
+from typing import Any, Iterator, Optional
 
 from commands import csp, guards
+from commands.ask_words import POLICIES
 from commands.scenario import origin_of
 from commands.urls import scheme_of
 from recorded.kinds import Asked, asked_of
@@ -18,15 +20,16 @@ ADDED = {"user-agent", "accept-language", "cache-control", "pragma", "priority",
 # Those whose values say whether a preflight is asked for; of others the name alone counts, and the value may be a
 # secret.
 PLAIN = ("accept", "accept-language", "content-language", "content-type", "range")
-REFERRER_POLICIES = ("no-referrer", "no-referrer-when-downgrade", "origin", "origin-when-cross-origin", "same-origin",
-                     "strict-origin", "strict-origin-when-cross-origin", "unsafe-url")
 MOST_HEADERS = 64
 LARGEST_BODY = 1048576
+MOST_WRITTEN = 2000000  # characters of a body, as JSON writes it
+Policies = list[dict[str, list[str]]]
 # Answers that are not those of a server: what they let pass is supposed.
 ANSWERED = (
     (lambda entry: entry.is_from_worker, "a service worker answered it, so no rule is asked about a server's answer"),
     (lambda entry: entry.is_still_good,
      "the server said that what the HTTP cache had is still so, which is not recorded: no rule is asked about it"))
+INSERTED = "taken to be inserted by a script, since the page's HTML does not have it"
 NO_BODY = "its integrity text was not checked, since the recording does not have the body whole"
 
 
@@ -58,9 +61,15 @@ class Command:
         return replace(self, data={word: {**self.options, **change}})
 
 
-def of_chain(chain: Chain, page: Page) -> Command:
+def of_page(page: Page) -> Iterator[Command]:
+    """The commands of a page, in the order of its chains."""
+    policies = csp.policies(policy_headers(page))
+    return (of_chain(chain, page, policies) for chain in page.chains)
+
+
+def of_chain(chain: Chain, page: Page, policies: Policies) -> Command:
     asked = asked_of(chain, page.url, page.html)
-    command = of_load(chain, page, asked) if asked.is_load else of_fetch(chain, asked)
+    command = of_load(chain, page, asked, policies) if asked.is_load else of_fetch(chain, asked)
     command.notes += [note for held, note in ANSWERED if any(map(held, chain.hops))]
     return command
 
@@ -107,36 +116,38 @@ def script_headers(chain: Chain) -> list[list[str]]:
 
 # ---- loads
 
-def of_load(chain: Chain, page: Page, asked: Asked) -> Command:
+def of_load(chain: Chain, page: Page, asked: Asked, policies: Policies) -> Command:
     options: dict[str, Any] = {"kind": asked.kind, "url": url_of(chain, asked.element)}
     command = Command(chain, asked, {"load": options})
     if asked.crossorigin:
         options["crossorigin"] = asked.crossorigin
-    if asked.element and asked.element.referrer_policy in REFERRER_POLICIES:
+    if asked.element and asked.element.referrer_policy in POLICIES:
         options["referrer_policy"] = asked.element.referrer_policy
     if asked.kind in ("script", "style"):
-        add_nonce(command, page)
+        words = [word for policy in policies for word in csp.deciding(policy, csp.EFFECTIVE[asked.kind])[1]]
+        add_nonce(command, words, page.html is not None)
     if asked.element and asked.element.integrity and asked.kind in ("script", "style"):
         add_integrity(command, page, asked.element.integrity)
     return command
 
 
-def add_nonce(command: Command, page: Page) -> None:
-    """The nonce of the element. One that the recorded HTML does not have was inserted by a script; what was answered is
-    taken to have had a nonce of the policy."""
+def add_nonce(command: Command, words: list[str], has_html: bool) -> None:
+    """The nonce of the element. One that the recorded HTML does not have was inserted by a script, and has a nonce of
+    the policy where it was answered."""
     asked, options = command.asked, command.options
     if asked.element:
         if asked.element.nonce:
             options["nonce"] = asked.element.nonce
         return
-    if page.html is not None and asked.kind == "script":
+    if has_html and asked.kind == "script":
         options["parser"] = False
-        asked.guesses.append("taken to be inserted by a script, since the page's HTML does not have it")
-    nonces = [nonce for policy in csp.policies(policy_headers(page))
-              for nonce in csp.nonces(csp.deciding(policy, csp.EFFECTIVE[asked.kind])[1])]
+        asked.guesses += [INSERTED] if "'strict-dynamic'" in map(str.lower, words) else []
+    nonces = csp.nonces(words)
     if nonces and not command.chain.first.is_hidden:
         options["nonce"] = nonces[0]
         asked.guesses.append("taken to have the policy's nonce, since it was answered")
+    elif nonces:
+        asked.guesses.append("taken to have no nonce, since the page's HTML does not have it")
 
 
 def policy_headers(page: Page) -> list[tuple[str, str]]:
@@ -162,6 +173,7 @@ def text_of_body(entry: Entry) -> Optional[str]:
     if body is None or len(body) > LARGEST_BODY:
         return None
     try:
-        return body.decode("utf-8")
+        text = body.decode("utf-8")
     except UnicodeDecodeError:
         return None
+    return text if len(json.dumps(text)) <= MOST_WRITTEN else None

@@ -42,7 +42,7 @@ def read(data: Any, number: int) -> Entry:
         resource_type=fields.any_text(data, "_resourceType", "_request_type", "_resource_type").lower(),
         initiator=initiator_of(data), redirect=fields.any_text(response, "redirectURL"),
         has_cookies=bool(cookies) or any(name.lower() == "cookie" for name, _ in sent),
-        is_from_cache=bool(data.get("_fromCache")), is_from_worker=is_from_worker(response))
+        is_from_worker=response.get("_fetchedViaServiceWorker") is True)
 
 
 def is_without_host(url: str) -> bool:
@@ -109,10 +109,6 @@ def initiator_of(data: dict) -> str:
                 return fields.any_text(frame, "url")
         stack = stack.get("parent")
     return fields.any_text(told, "url")
-
-
-def is_from_worker(response: dict) -> bool:
-    return response.get("_fetchedViaServiceWorker") is True
 
 
 def time_of(text: Any) -> Optional[float]:

@@ -9,7 +9,7 @@ from recorded import differences, parts as parting, verdicts
 from recorded.changes import NONE, Changes
 from recorded.model import Page, Recording
 from recorded.plays import Played, played
-from recorded.scenarios import Part, count_of, parts_of
+from recorded.scenarios import Part, parts_of
 from recorded.verdicts import BARE, OTHER, Cases, Finding
 
 PARTS = ("a page of %d requests is played in %d parts: the preflight cache is empty at the beginning of each")
@@ -68,11 +68,16 @@ def page_data(page: Page, judged: list[tuple[Part, list[Finding]]], recording: R
         finding.rule = rules.get(finding.chain.first.number)
     return {
         "url": page.url, "top": page.top, "entry": page.entry.number if page.entry else None,
-        "requests": count_of(page.chains) + len(page.left_out), "verdict": verdict_of(findings),
+        "requests": count_of(page), "verdict": verdict_of(findings),
         "findings": [verdicts.data_of(finding) for finding in findings],
         "parts": parted,
         "left_out": [{"entry": entry.number, "url": entry.url, "why": why} for entry, why in page.left_out],
         "notes": notes}
+
+
+def count_of(page: Page) -> int:
+    """How many requests of a page are recorded."""
+    return len(page.left_out) + sum(len(chain.entries) - chain.is_lone_preflight for chain in page.chains)
 
 
 def verdict_of(findings: list[Finding]) -> str:

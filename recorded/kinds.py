@@ -66,7 +66,7 @@ def kind_of(entry: Entry, html: Optional[Html]) -> tuple[str, Optional[str]]:
     if destination:
         return DESTINATIONS.get(destination, destination), None
     if entry.resource_type:
-        return of_type(entry), None
+        return of_type(entry)
     if html and entry.bare_url in html.frames:
         return FRAME, None
     if html and entry.bare_url in html.elements:
@@ -74,12 +74,13 @@ def kind_of(entry: Entry, html: Optional[Html]) -> tuple[str, Optional[str]]:
     return guessed(entry)
 
 
-def of_type(entry: Entry) -> str:
+def of_type(entry: Entry) -> tuple[str, Optional[str]]:
     """By the tools' own field. What they call other is mostly the page's icon."""
-    kind = TYPES.get(entry.resource_type)
-    if kind == "video" and (entry.answered("Content-Type") or "").startswith("audio/"):
-        return "audio"
-    return kind or (guessed(entry)[0] if entry.resource_type == "other" else entry.resource_type)
+    if entry.resource_type == "other":
+        return guessed(entry)
+    if entry.resource_type == "media" and (entry.answered("Content-Type") or "").startswith("audio/"):
+        return "audio", None
+    return TYPES.get(entry.resource_type, entry.resource_type), None
 
 
 def guessed(entry: Entry) -> tuple[str, str]:
@@ -123,7 +124,7 @@ def asked_of(chain: Chain, page_url: str, html: Optional[Html]) -> Asked:
 def of_load(chain: Chain, asked: Asked, mode: str, page_url: str) -> Asked:
     is_cors = asked.kind in ("font", "manifest")
     entry = chain.first
-    if asked.element and asked.element.crossorigin:
+    if asked.element and asked.element.crossorigin and mode != "no-cors":
         asked.crossorigin = asked.element.crossorigin
     elif not is_cors and (mode == "cors" or not mode and entry.asked("Origin") is not None):
         is_foreign = entry.origin != origin_of(page_url)

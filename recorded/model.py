@@ -31,7 +31,6 @@ class Entry:
     initiator: str = ""
     redirect: str = ""
     has_cookies: bool = False
-    is_from_cache: bool = False
     is_from_worker: bool = False
 
     @cached_property

@@ -36,7 +36,9 @@ class Group:
     def __init__(self, title: str):
         self.title = title if origin_of(title) else ""
         self.pages: list[Page] = []
+        self.by_url: dict[str, Page] = {}
         self.top: Optional[Page] = None
+        self.frames: list[Page] = []  # of the page at the top
 
     def take(self, chain: Chain) -> None:
         """Takes the next chain: a document of its own, or what one of the documents asked for."""
@@ -47,7 +49,7 @@ class Group:
         is_below = kind == kinds.DOCUMENT and self.top is not None and is_within(chain.first, self.top)
         is_frame = kind == kinds.FRAME or is_below
         if why is None and self.is_document(chain, kind) and not is_frame:
-            self.top = self.add(document_of(chain))
+            self.top, self.frames = self.add(document_of(chain)), []
             return
         page = page or self.unrecorded(chain.first)
         if why is None and kind in (*kinds.LOADS, kinds.FETCH):
@@ -55,7 +57,7 @@ class Group:
             return
         page.left_out.append((chain.first, why or unplayed.FRAME))
         if why is None and origin_of(chain.last.url):
-            self.add(document_of(chain, page.top or page.url))
+            self.frames.append(self.add(document_of(chain, page.top or page.url)))
 
     def is_document(self, chain: Chain, kind: str) -> bool:
         """Whether a chain is the page itself; where nothing says what it is, the first that is the page's URL or
@@ -69,6 +71,7 @@ class Group:
 
     def add(self, page: Page) -> Page:
         self.pages.append(page)
+        self.by_url[page.url.partition("#")[0]] = page
         return page
 
     def unrecorded(self, entry: Entry) -> Page:
@@ -85,14 +88,13 @@ class Group:
         """The document that asked: that of the Referer or of the initiator, else one of the origin that the request
         names, else the last one at the top."""
         referer = (entry.asked("Referer") or "").partition("#")[0]
-        for page in reversed(self.pages):
-            if page.url.partition("#")[0] in (referer, entry.initiator):
-                return page
-        origin = entry.origin if entry.asked("Sec-Fetch-Site") == "same-origin" else \
-            origin_of(entry.asked("Origin") or "") or origin_of(referer)
+        named = self.by_url.get(referer) or self.by_url.get(entry.initiator)
+        if named:
+            return named
+        is_own = entry.asked("Sec-Fetch-Site") == "same-origin"
+        origin = entry.origin if is_own else origin_of(entry.asked("Origin") or "") or origin_of(referer)
         top = self.top or self.pages[-1]
-        frames = [page for page in self.pages if page.top == top.url]
-        return next((page for page in [top, *reversed(frames)] if page.origin == origin), top)
+        return next((page for page in [top, *reversed(self.frames)] if page.origin == origin), top)
 
 
 def is_within(entry: Entry, top: Page) -> bool:

@@ -21,6 +21,7 @@ COMMAND = re.compile(r"/documents/0/script/(\d+)(?:/.*)?")
 SERVER = re.compile(r"/servers/(\d+)(?:/origin|/rules/(\d+).*)?")
 HOST = re.compile(r"/hsts/(\d+).*")
 MOST_TRIES = 12
+LONGEST = 4194304  # bytes of a scenario
 NO_SCENARIO = "no scenario can have it, at %s"
 NO_PAGE = "its page is none that a scenario can have"
 TOO_LONG = "the play of its page ended before it"
@@ -85,10 +86,17 @@ def play_layer(layer: Layer, found: Played) -> None:
 
 def cases_of(data: dict[str, Any]) -> list[Case]:
     """What each command of a scenario comes to."""
-    scenario, play = Scenario(None, data), play_text.read(running.played(json.dumps(data).encode("ascii")))
+    text = json.dumps(data).encode("ascii")
+    if len(text) > LONGEST:
+        raise running.Refused("/")
+    scenario, play = Scenario(None, data), play_text.read(running.played(text))
     scenario.attach(play)
-    sent = [[(request, answers.scripted(scenario, request)) for request in fetch.of("send")] for fetch in play.fetches()]
-    return [PlayedCase(scenario, fetch, exchanges) for fetch, exchanges in zip(play.fetches(), sent)]
+    return [PlayedCase(scenario, fetch, exchanges_of(scenario, fetch)) for fetch in play.fetches()]
+
+
+def exchanges_of(scenario: Scenario, fetch: Any) -> list[tuple[Any, Any]]:
+    """The requests of a fetch with their answers."""
+    return [(request, answers.scripted(scenario, request)) for request in fetch.of("send")]
 
 
 def without(data: dict[str, Any], place: str, numbers: list[int]) -> Optional[int]:

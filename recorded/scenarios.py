@@ -16,7 +16,7 @@ from recorded import commands_of
 from recorded.changes import NONE, Changes
 from recorded.commands_of import Command
 from recorded.known_hosts import Book
-from recorded.model import Chain, Entry, Page
+from recorded.model import Entry, Page
 from recorded.rules import PASSING, READ, Rules, Supposed, rules_of
 
 DOCUMENT_HEADERS = (*csp.HEADERS, "referrer-policy")
@@ -53,8 +53,8 @@ def parts_of(page: Page) -> list[Part]:
     """The page's commands in parts, each small enough for a scenario."""
     parts: list[Part] = []
     book, size, begun = Book(), 0, page.entry.started if page.entry else None
-    for command in (commands_of.of_chain(chain, page) for chain in page.chains):
-        own = len(json.dumps(command.data)) + len(command.body or "") + sum(map(size_of, command.chain.entries))
+    for command in commands_of.of_page(page):
+        own = len(json.dumps([command.data, command.body])) + sum(map(size_of, command.chain.entries))
         if not parts or len(parts[-1].commands) >= MOST_COMMANDS or size + own > MOST_TEXT:
             parts.append(Part(page, [], page.hsts + (book.at(begun) if parts else []), len(parts)))
             size = 0
@@ -66,7 +66,9 @@ def parts_of(page: Page) -> list[Part]:
 
 
 def size_of(entry: Entry) -> int:
-    return 200 + len(entry.url) + sum(len(name) + len(value) for name, value in entry.got if name.lower() in READ)
+    """How long an answer becomes in a scenario, or less."""
+    texts = [entry.url, *(value for name, value in entry.got if name.lower() in READ)]
+    return 200 + sum(len(text) * (1 if text.isascii() else 6) for text in texts)
 
 
 # ---- layers
@@ -165,7 +167,3 @@ def is_other_host(origin: str) -> bool:
         return ipaddress.ip_address(host).compressed == host
     except ValueError:
         return re.fullmatch(r"(?:[a-z0-9_-]+\.)*[a-z0-9-]+", host) is not None and "xn--" in host
-
-
-def count_of(chains: list[Chain]) -> int:
-    return sum(len(chain.entries) - chain.is_lone_preflight for chain in chains)
