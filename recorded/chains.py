@@ -80,7 +80,7 @@ def target_of(entry: Entry) -> Optional[str]:
 
 
 def redirected(entries: list[Entry]) -> list[Chain]:
-    """Each entry is a chain of its own, or the next hop of one before it: of the first that leads to its URL."""
+    """Each entry is a chain of its own, or the next hop of the last one before it that leads to its URL."""
     waiting: dict[str, list[tuple[Chain, int]]] = {}
     chains = []
     for entry in entries:
@@ -97,10 +97,11 @@ def redirected(entries: list[Entry]) -> list[Chain]:
 
 
 def taken(waiting: list[tuple[Chain, int]], entry: Entry) -> Optional[Chain]:
-    """The first chain that waits for this entry; those that have gone on meanwhile are forgotten."""
-    while waiting and len(waiting[0][0].hops) != waiting[0][1]:
-        waiting.pop(0)
-    for place, (chain, length) in enumerate(waiting):
+    """The last chain that waits for this entry; those that have gone on meanwhile are forgotten."""
+    while waiting and len(waiting[-1][0].hops) != waiting[-1][1]:
+        waiting.pop()
+    for place in range(len(waiting) - 1, -1, -1):
+        chain, length = waiting[place]
         if len(chain.hops) == length and is_next(chain.last, entry):
             waiting.pop(place)
             return chain
@@ -109,8 +110,16 @@ def taken(waiting: list[tuple[Chain, int]], entry: Entry) -> Optional[Chain]:
 
 def is_next(entry: Entry, other: Entry) -> bool:
     """Whether another entry may be the request that follows a redirect."""
-    kinds = {one for one in (entry.asked("Sec-Fetch-Dest"), other.asked("Sec-Fetch-Dest")) if one is not None}
-    return entry.page == other.page and len(kinds) < 2 and not entry.error
+    is_alike = all(None in (entry.asked(name), other.asked(name)) or entry.asked(name) == other.asked(name)
+                   for name in ("Sec-Fetch-Dest", "Sec-Fetch-Mode"))
+    return entry.page == other.page and is_alike and other.method == method_behind(entry) and not entry.error
+
+
+def method_behind(entry: Entry) -> str:
+    """The method of the request that follows a redirect (Fetch, "HTTP-redirect fetch")."""
+    is_post = entry.status in (301, 302) and entry.method == "POST"
+    is_other = entry.status == 303 and entry.method not in ("GET", "HEAD")
+    return "GET" if is_post or is_other else entry.method
 
 
 def without_internal(chain: Chain) -> Chain:

@@ -3,6 +3,7 @@ from __future__ import annotations
 
 import json
 import re
+from collections import Counter
 from dataclasses import dataclass, field, replace
 from typing import Any, Iterator, Optional
 
@@ -64,11 +65,16 @@ class Command:
 def of_page(page: Page) -> Iterator[Command]:
     """The commands of a page, in the order of its chains."""
     policies = csp.policies(policy_headers(page))
-    return (of_chain(chain, page, policies) for chain in page.chains)
+    counts, numbers = Counter(chain.first.bare_url for chain in page.chains), Counter()
+    for chain in page.chains:
+        url = chain.first.bare_url
+        element = page.html.element_of(url, numbers[url], counts[url]) if page.html else None
+        numbers[url] += 1
+        yield of_chain(chain, page, policies, element)
 
 
-def of_chain(chain: Chain, page: Page, policies: Policies) -> Command:
-    asked = asked_of(chain, page.url, page.html)
+def of_chain(chain: Chain, page: Page, policies: Policies, element: Optional[Element]) -> Command:
+    asked = asked_of(chain, page.url, page.html, element)
     command = of_load(chain, page, asked, policies) if asked.is_load else of_fetch(chain, asked)
     command.notes += [note for held, note in ANSWERED if any(map(held, chain.hops))]
     return command
@@ -78,6 +84,9 @@ def of_fetch(chain: Chain, asked: Asked) -> Command:
     options: dict[str, Any] = {"url": url_of(chain), "method": chain.first.method, "mode": asked.mode,
                                "credentials": asked.credentials}
     headers = script_headers(chain)
+    if 0 in chain.preflights and chain.first.method in guards.SAFELISTED_METHODS and not guards.unsafe_names(headers):
+        options["upload"] = True
+        asked.guesses.append("taken to have an upload listener, since nothing else asks for its preflight")
     return Command(chain, asked, {"fetch": {**options, **({"headers": headers} if headers else {})}})
 
 

@@ -45,9 +45,8 @@ class Reader(HTMLParser):
             crossorigin = CROSSORIGIN.get(given["crossorigin"].strip().lower(), "anonymous")
         element = Element(kind, url, crossorigin, given.get("integrity", ""), given.get("nonce", ""),
                           given.get("referrerpolicy", "").strip().lower())
-        for one in (url, secure(url)) if url else ():
-            if one not in self.html.elements or not self.html.elements[one].integrity and element.integrity:
-                self.html.elements[one] = element
+        for one in {url, secure(url)} if url else ():
+            self.html.elements.setdefault(one, []).append(element)
 
     def read_base(self, given: dict[str, str]) -> None:
         if given.get("href") and not self.is_based:

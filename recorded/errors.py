@@ -23,8 +23,10 @@ def of_network(error: str) -> Optional[str]:
     return next((told for form, told in NETWORK if re.search(form, error)), None)
 
 
-def other(error: str) -> Optional[str]:
-    """Why there was no answer, where no rule of a fetch has kept it."""
+def other(error: str, status: int) -> Optional[str]:
+    """Why it failed, where no rule of a fetch has refused it."""
+    if ABORTED.search(error) and status >= 400:
+        return f"the answer is {status}, so the element fails"
     if ABORTED.search(error):
         return "the page gave it up, or was left before the answer came"
     if OUTSIDE.search(error):

@@ -33,17 +33,21 @@ def findings_of(part: Part, recording: Recording) -> list[Finding]:
     """What is said of each command of a part."""
     plain = played(part)
     cases = [Cases(plain.cases.get(number), plain.problems.get(number, "")) for number in range(len(part.commands))]
-    add_suppositions(part, cases)
-    return [verdicts.verdict(command, own, recording.tells_errors) for command, own in zip(part.commands, cases)]
+    add_suppositions(part, cases, recording.tells_errors)
+    findings = [verdicts.verdict(command, own, recording.tells_errors) for command, own in zip(part.commands, cases)]
+    for finding in findings:
+        parting.settle(finding, part.page, recording)
+    return findings
 
 
-def add_suppositions(part: Part, cases: list[Cases]) -> None:
-    """Plays what failed once more, as it may have been: with credentials, and with a bare answer in the place of a
-    hidden one."""
+def add_suppositions(part: Part, cases: list[Cases], tells_errors: bool) -> None:
+    """Plays once more what may have been otherwise: with credentials, where nothing says that it passed without; and
+    with a bare answer in the place of a hidden one."""
     played_ones = [(command, own) for command, own in zip(part.commands, cases) if own.plain is not None]
     wrong = [(command, verdicts.is_refused(own.plain, command)) for command, own in played_ones
              if verdicts.failed_of(command.chain) or verdicts.is_refused(own.plain, command)]
-    if any(command.asked.is_open for command, _ in wrong):
+    unsure = wrong if tells_errors else played_ones
+    if any(command.asked.is_open for command, _ in unsure):
         add(cases, played(part, OTHER), "other", [command.asked.is_open for command in part.commands])
     if any(command.chain.last.is_hidden and not is_refused for command, is_refused in wrong):
         add(cases, played(part, BARE), "bare", [command.chain.last.is_hidden for command in part.commands])
@@ -62,10 +66,7 @@ def page_data(page: Page, judged: list[tuple[Part, list[Finding]]], recording: R
     notes = list(page.notes)
     if len(judged) > 1:
         notes.append(PARTS % (len(findings), len(judged)))
-    parted = parting.of_findings(findings, page, recording.browser)
-    rules = {one["entry"]: one["rule"] for one in parted if one["what"] == parting.RESULT}
-    for finding in findings:
-        finding.rule = rules.get(finding.chain.first.number)
+    parted = parting.of_findings(findings, page, recording)
     return {
         "url": page.url, "top": page.top, "entry": page.entry.number if page.entry else None,
         "requests": count_of(page), "verdict": verdict_of(findings),

@@ -70,7 +70,7 @@ def kind_of(entry: Entry, html: Optional[Html]) -> tuple[str, Optional[str]]:
     if html and entry.bare_url in html.frames:
         return FRAME, None
     if html and entry.bare_url in html.elements:
-        return html.elements[entry.bare_url].kind, None
+        return html.elements[entry.bare_url][0].kind, None
     return guessed(entry)
 
 
@@ -106,14 +106,13 @@ def is_scripted(entry: Entry) -> bool:
     return entry.method != "GET" or entry.asked("X-Requested-With") is not None
 
 
-def asked_of(chain: Chain, page_url: str, html: Optional[Html]) -> Asked:
-    """How the page asked for the beginning of a chain."""
+def asked_of(chain: Chain, page_url: str, html: Optional[Html], element: Optional[Element]) -> Asked:
+    """How the page asked for the beginning of a chain, by an element of its HTML perhaps."""
     entry = chain.first
     kind, reason = kind_of(entry, html)
     if chain.preflights or entry.method != "GET" and kind in LOADS:  # which no element sends
         kind, reason = FETCH, None
     guesses = [f"taken for {ARTICLES.get(kind, 'a')} {kind}, {reason}"] if reason else []
-    element = html.elements.get(entry.bare_url) if html else None
     element = element if element and element.kind == kind else None
     mode = (entry.asked("Sec-Fetch-Mode") or "").lower()
     if kind in LOADS:

@@ -131,8 +131,18 @@ class Html:
 
     policies: list[str] = field(default_factory=list)
     referrer_policy: str = ""
-    elements: dict[str, Element] = field(default_factory=dict)
+    elements: dict[str, list[Element]] = field(default_factory=dict)
     frames: set[str] = field(default_factory=set)
+
+    def element_of(self, url: str, number: int, count: int) -> Optional[Element]:
+        """The element of the request of this number, of so many for a URL. Where there are fewer requests than elements
+        one answer serves several, and an integrity text counts for all."""
+        own = self.elements.get(url)
+        if not own:
+            return None
+        if count < len(own):
+            return next((element for element in own if element.integrity), own[0])
+        return own[min(number, len(own) - 1)]
 
 
 @dataclass

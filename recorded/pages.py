@@ -149,8 +149,8 @@ def add_upgraded(page: Page) -> None:
 
 def is_upgraded_alone(entry: Entry, page: Page) -> bool:
     """Whether a page over http names an http URL, and https was asked, though no policy of the page says so."""
-    element = page.html.elements.get(entry.bare_url) if page.html else None
-    if element is None or not element.url.startswith("http:") or not page.url.startswith("http:"):
+    elements_of = page.html.elements.get(entry.bare_url, []) if page.html else []
+    if not page.url.startswith("http:") or not any(one.url.startswith("http:") for one in elements_of):
         return False
     policies = [page.entry.answered("Content-Security-Policy") or "", *page.html.policies]
     return entry.url.startswith("https:") and not any(UPGRADE in policy for policy in policies)

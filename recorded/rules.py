@@ -58,9 +58,10 @@ def key_of(url: str, method: str) -> Key:
     return origin_of(url) or "", method, target_of(url)
 
 
-def rules_of(command: Command, page: Page, supposed: Supposed, changes: Changes) -> Optional[Rules]:
-    """The answers that a command needs: of its hops, and of their preflights. None where one request was answered in
-    two ways, as a login does that leads back."""
+def rules_of(command: Command, page: Page, supposed: Supposed, changes: Changes,
+             earlier: dict[str, Entry]) -> Optional[Rules]:
+    """The answers that a command needs: of its hops, and of their preflights, of which `earlier` are those before by
+    their URLs. None where one request was answered in two ways, as a login does that leads back."""
     chain, found = command.chain, {}
     for number, hop in enumerate(chain.hops):
         passing = passing_headers(origin_at(chain, number, origin_of(changes.page_url(page.url)) or ""))
@@ -71,7 +72,8 @@ def rules_of(command: Command, page: Page, supposed: Supposed, changes: Changes)
         if found.setdefault(key_of(url, hop.method), rule) != rule:
             return None
         if is_preflightable(command, number):
-            found[key_of(url, "OPTIONS")] = preflight_rule(command, number, passing, supposed)
+            preflight = chain.preflights.get(number, earlier.get(hop.bare_url))
+            found[key_of(url, "OPTIONS")] = preflight_rule(command, hop, preflight, passing, supposed)
     if changes.headers:
         for (origin, _, target), rule in found.items():
             rule["headers"] = list(map(list, changes.of_answer(origin + target, rule["headers"])))
@@ -98,9 +100,9 @@ def rule_of(hop: Entry, passing: list[tuple[str, str]], supposed: Supposed) -> d
     return answer(hop.status, read_of(hop))
 
 
-def preflight_rule(command: Command, number: int, passing: list[tuple[str, str]], supposed: Supposed) -> dict[str, Any]:
+def preflight_rule(command: Command, hop: Entry, preflight: Optional[Entry], passing: list[tuple[str, str]],
+                   supposed: Supposed) -> dict[str, Any]:
     """The answer to the preflight of a hop. One that is not recorded has passed, where its request was answered."""
-    hop, preflight = command.chain.hops[number], command.chain.preflights.get(number)
     if preflight is not None and not preflight.is_hidden:
         return answer(preflight.status, read_of(preflight))
     if supposed.bare and hop.is_hidden:

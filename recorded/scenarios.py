@@ -79,8 +79,10 @@ def layers_of(part: Part, supposed: Supposed = PASSING,
     all_rules: list[Rules] = []
     owned: list[set[int]] = []
     left: dict[int, str] = {}
+    earlier: dict[str, Entry] = {}
     for number, command in enumerate(part.commands):
-        own = rules_of(command, part.page, supposed, changes)
+        own = rules_of(command, part.page, supposed, changes, earlier)
+        earlier.update((one.bare_url, one) for one in command.chain.preflights.values())
         places = (place for place, rules in enumerate(all_rules) if own is not None and fits(own, rules))
         place = next(places, len(all_rules))
         if own is None or place == MOST_LAYERS:

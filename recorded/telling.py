@@ -6,7 +6,7 @@ from typing import Any, Iterator, Optional
 
 from commands.summaries import shown
 from recorded.kinds import WITHOUT
-from recorded.verdicts import BEFORE, WORDS
+from recorded.verdicts import WORDS
 
 MOST = 20  # lines of a kind
 TOLD = tuple(WORDS)
@@ -90,12 +90,8 @@ def rest_of_page(page: dict[str, Any]) -> Iterator[str]:
     """Where recording and standards part, what was guessed, and what was left out."""
     errors = [one for one in page["findings"] if one["verdict"] == "passed" and one["status"] >= 400]
     yield from some(errors, lambda one: f"  answered with {one['status']}, and the page saw it: {name_of(one)}")
-    yield from some([one for one in page["parts"] if one["what"] != "result"], part_line)
+    yield from some(page["parts"], part_line)
     guesses = [(one, guess) for one in page["findings"] for guess in one["guesses"] if guess != WITHOUT]
-    open_ones = [one for one in page["findings"]
-                 if WITHOUT in one["guesses"] and not one["how_sure"].startswith(BEFORE)]
-    if open_ones:
-        yield f"  guessed: {count(len(open_ones), 'request')} to other origins {WITHOUT}"
     yield from some(guesses, lambda pair: f"  guessed: entry {pair[0]['entry']}, {name_of(pair[0])}: {pair[1]}")
     notes = [(one, note) for one in page["findings"] for note in one["notes"] if one["verdict"] == "passed"]
     yield from some(notes, lambda pair: f"  note: entry {pair[0]['entry']}, {name_of(pair[0])}: {pair[1]}")

@@ -4,7 +4,7 @@ from __future__ import annotations
 from dataclasses import dataclass, field
 from typing import Any, Optional
 
-from commands.case import LOCAL, Case
+from commands.case import LOCAL, REDIRECTS, Case
 from commands.explanations import Explanation
 from commands.urls import scheme_of
 from recorded import errors
@@ -22,6 +22,8 @@ OTHER = Supposed(other_credentials=True)
 BARE = Supposed(bare=True)
 BEFORE = "nothing is sent: the page's policies and URLs decide it"
 BY_PREFLIGHT = "the recorded answer to the preflight is refused as it stands"
+NO_PREFLIGHT = "its preflight is not recorded, and it was answered: an earlier page may have asked"
+FOLLOWS = "taken to follow redirects, as requests do that do not say otherwise"
 HIDDEN = "the recording hides the answer"
 WITH_CREDENTIALS = ("asked with credentials this is so, which the recording does not show; without them what is "
                     "recorded passes")
@@ -40,6 +42,7 @@ class Finding:
     how_sure: str = ""
     told: str = ""  # where no case explains it
     rule: Optional[str] = None  # of docs/BROWSERS.md, that explains why browser and standards part
+    is_kept_back: bool = False  # whether by that rule the page never got it
     supposed: Supposed = PASSING  # how the case was played
     notes: list[str] = field(default_factory=list)
 
@@ -109,8 +112,9 @@ def way_of(case: Case) -> str:
 def verdict(command: Command, cases: Cases, tells_errors: bool) -> Finding:
     finding = bare_verdict(command, cases, tells_errors)
     finding.notes += command.notes
-    if finding.verdict in (REFUSED, UNREACHED):
-        weigh_credentials(finding, cases)
+    weigh_credentials(finding, cases, tells_errors)
+    if finding.verdict == UNREACHED and command.chain.last.status in REDIRECTS:
+        command.asked.guesses.append(FOLLOWS)
     if finding.verdict in (REFUSED, UNREACHED) and finding.certainty == "sure" and command.asked.guesses:
         finding.certainty = "if"
         finding.how_sure += "; " + ", and ".join(command.asked.guesses)
@@ -144,20 +148,22 @@ def of_refused_failure(command: Command, cases: Cases, failed: Entry) -> Finding
     network = errors.of_network(failed.error)
     if network and not case.refused_before:
         return Finding(command, FAILED, told=f"{network} ({failed.error})")
+    if 7 <= case.result.number <= 11 and not command.chain.preflights:
+        return Finding(command, REFUSED, case, "if",
+                       "its preflight is not recorded: the answer to an earlier one is refused")
     return Finding(command, REFUSED, case, how_sure=basis(case))
 
 
-def weigh_credentials(finding: Finding, cases: Cases) -> None:
+def weigh_credentials(finding: Finding, cases: Cases, tells_errors: bool) -> None:
     """Says what credentials would change, where the recording cannot tell whether they went along."""
     other = cases.other
-    if other is None or finding.supposed != PASSING:
+    if other is None or finding.supposed != PASSING or not is_refused(other, finding.command):
         return
-    if not is_refused(other, finding.command):
-        finding.certainty = "if"
-        finding.how_sure += "; it was asked without credentials, or this would pass"
-    elif way_of(other) not in ("", way_of(finding.case)):
-        condition = explanation_of(other).condition
-        finding.how_sure += f"; had it credentials, which the recording would not show: {condition}"
+    condition = f"had it credentials, which the recording would not show: {explanation_of(other).condition}"
+    if finding.verdict in (REFUSED, UNREACHED) and way_of(other) != way_of(finding.case):
+        finding.how_sure += "; " + condition
+    elif finding.verdict == PASSED and not tells_errors:
+        finding.notes.append(condition)
 
 
 def basis(case: Case) -> str:
@@ -172,6 +178,8 @@ def of_refused_success(command: Command, case: Case, tells_errors: bool) -> Find
     is_before = not case.exchanges or case.refused_before
     if is_before and scheme_of(command.chain.url) not in LOCAL and was_answered(command.chain, case):
         return Finding(command, PARTED, case, told="the standards send nothing to it, and an answer is recorded")
+    if 7 <= case.result.number <= 11 and not command.chain.preflights:
+        return Finding(command, PASSED, case, notes=[NO_PREFLIGHT])
     if 7 <= case.result.number <= 11:
         return Finding(command, PARTED, case,
                        told="the standards refuse it at its preflight, and the request was answered")
@@ -191,15 +199,16 @@ def of_failure(command: Command, cases: Cases, failed: Entry) -> Finding:
     case = cases.plain
     if errors.is_orb(failed.error):
         return Finding(command, PARTED, case, told="opaque response blocking kept it back, which is not played here")
-    told = errors.of_network(failed.error) or errors.other(failed.error)
+    told = errors.of_network(failed.error) or errors.other(failed.error, failed.status)
     if told:
         return Finding(command, FAILED, told=f"{told} ({failed.error})")
     if cases.other is not None and is_refused(cases.other, command):
         how_sure = WITH_CREDENTIALS + (", and its hidden answer would be to blame" if failed.is_hidden else "")
         return Finding(command, REFUSED, cases.other, "if", how_sure, supposed=OTHER)
     if not failed.is_hidden:
+        more = "; a fetch with `redirect` `error` fails so" if failed.status in REDIRECTS else ""
         return Finding(command, PARTED, case,
-                       told=f"the browser tells an error ({failed.error}), and the standards refuse nothing")
+                       told=f"the browser tells an error ({failed.error}), and the standards refuse nothing{more}")
     bare = cases.bare
     if bare is not None and is_refused(bare, command) and bare.result.number in (7, 12):
         where = " to the preflight" if bare.result.number == 7 else ""
@@ -221,7 +230,7 @@ def data_of(finding: Finding) -> dict[str, Any]:
         "url": chain.url, "kind": command.kind, "mode": command.asked.mode,
         "credentials": "open" if command.asked.is_open else command.asked.credentials,
         "recorded": recorded_of(chain), "status": chain.last.status, "verdict": finding.verdict,
-        "failed": finding.verdict != UNJUDGED and failed_of(chain) is not None,
+        "failed": finding.is_kept_back or finding.verdict != UNJUDGED and failed_of(chain) is not None,
         "result": case.result.short() if case else None, "certainty": finding.certainty, "how_sure": finding.how_sure,
         "told": finding.told, "rule": finding.rule, "why": explanation.data() if explanation else None,
         "directive": enforced[0].directive if enforced and finding.verdict != PASSED else None,
