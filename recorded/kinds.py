@@ -137,6 +137,10 @@ def of_load(chain: Chain, asked: Asked, mode: str, page_url: str) -> Asked:
 def of_fetch(chain: Chain, asked: Asked, mode: str, page_url: str) -> Asked:
     entry = chain.first
     asked.mode = mode if mode in MODES else "no-cors" if entry.resource_type == "ping" else "cors"
+    is_without_origin = entry.has_all_headers and entry.asked("Origin") is None and entry.origin != origin_of(page_url)
+    if not mode and is_without_origin and scheme_of(entry.url) in ("http", "https"):
+        asked.mode = "no-cors"
+        asked.guesses.append("taken to be asked in mode no-cors, since it has no Origin")
     foreign = [hop for hop in chain.hops if hop.origin != origin_of(page_url)]
     if any(hop.has_cookies for hop in foreign) or asked.mode == "no-cors":
         asked.credentials = "include"

@@ -82,8 +82,9 @@ class Entry:
 
     @property
     def has_all_headers(self) -> bool:
-        """Whether the request's headers are those that went out, and not a part of them."""
-        return self.asked("User-Agent") is not None
+        """Whether the request's headers are those that went out: of one that was stopped tools tell a part of them."""
+        is_sent = any(name in self.sent_values for name in ("host", "accept", "accept-encoding"))
+        return is_sent and "user-agent" in self.sent_values
 
     @property
     def body(self) -> Optional[bytes]:
