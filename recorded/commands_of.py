@@ -21,6 +21,7 @@ ADDED = {"user-agent", "accept-language", "cache-control", "pragma", "priority",
 # Those whose values say whether a preflight is asked for; of others the name alone counts, and the value may be a
 # secret.
 PLAIN = ("accept", "accept-language", "content-language", "content-type", "range")
+UNSAFE = '"'  # a value that asks for a preflight, whatever the header is
 MOST_HEADERS = 64
 LARGEST_BODY = 1048576
 MOST_WRITTEN = 2000000  # characters of a body, as JSON writes it
@@ -114,12 +115,13 @@ def script_headers(chain: Chain) -> list[list[str]]:
         lowered = name.lower()
         if guards.in_place(name, value) is not None or lowered in ADDED and lowered not in named:
             continue
-        is_unnamed = listed is not None and lowered not in named and not guards.is_safelisted(name, value)
-        if is_unnamed or (lowered, value) == ("accept", "*/*"):
+        is_safe = guards.is_safelisted(name, value)
+        if listed is not None and lowered not in named and not is_safe or (lowered, value) == ("accept", "*/*"):
             continue
-        found[lowered] = [name, value if lowered in PLAIN else "x"]
+        if not (lowered in named and is_safe):
+            found[lowered] = [name, value if lowered in PLAIN else "x"]
     for name in sorted(named - set(found)):
-        found[name] = [name, "application/json" if name == "content-type" else "x"]
+        found[name] = [name, UNSAFE if name in PLAIN else "x"]
     return list(found.values())[:MOST_HEADERS]
 
 

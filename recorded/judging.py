@@ -10,7 +10,7 @@ from recorded.changes import NONE, Changes
 from recorded.model import Page, Recording
 from recorded.plays import Played, played
 from recorded.scenarios import Part, parts_of
-from recorded.verdicts import BARE, OTHER, Cases, Finding
+from recorded.verdicts import ANEW, ANEW_OTHER, BARE, OTHER, Cases, Finding
 
 PARTS = ("a page of %d requests is played in %d parts: the preflight cache is empty at the beginning of each")
 
@@ -49,6 +49,12 @@ def add_suppositions(part: Part, cases: list[Cases], tells_errors: bool) -> None
     unsure = wrong if tells_errors else played_ones
     if any(command.asked.is_open for command, _ in unsure):
         add(cases, played(part, OTHER), "other", [command.asked.is_open for command in part.commands])
+    again = [verdicts.failed_of(command.chain) is not None and own.plain is not None
+             and verdicts.lacks_preflight(own.plain, command.chain) for command, own in zip(part.commands, cases)]
+    if any(again):
+        add(cases, played(part, ANEW), "anew", again)
+        is_open = [is_again and command.asked.is_open for is_again, command in zip(again, part.commands)]
+        add(cases, played(part, ANEW_OTHER), "anew_other", is_open)
     if any(command.chain.last.is_hidden and not is_refused for command, is_refused in wrong):
         add(cases, played(part, BARE), "bare", [command.chain.last.is_hidden for command in part.commands])
 

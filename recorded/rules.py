@@ -34,11 +34,12 @@ Rules = dict[Key, dict[str, Any]]
 
 @dataclass(frozen=True)
 class Supposed:
-    """What is taken for answers that are not recorded: such as let a page pass, or bare ones; and whether credentials
-    of which the recording says nothing were the other way."""
+    """What is taken for answers that are not recorded: such as let a page pass, or bare ones; whether credentials of
+    which the recording says nothing were the other way; and whether each recorded preflight is made anew."""
 
     bare: bool = False
     other_credentials: bool = False
+    anew: bool = False
 
 
 PASSING = Supposed()

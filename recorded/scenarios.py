@@ -125,7 +125,10 @@ def script_of(part: Part, supposed: Supposed) -> Iterator[dict[str, Any]]:
         started = command.chain.first.started
         begun = started if begun is None else begun
         seconds = int(started - begun) if started is not None and begun is not None else clock
-        if clock < seconds <= MOST_WAIT:
+        if supposed.anew and command.chain.preflights:
+            yield {"wait": MOST_WAIT}  # the preflight cache forgets
+            clock += MOST_WAIT
+        elif clock < seconds <= MOST_WAIT:
             yield {"wait": seconds - clock}
             clock = seconds
         is_other = supposed.other_credentials and command.asked.is_open

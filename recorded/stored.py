@@ -19,6 +19,8 @@ CORPUS = os.path.join(ROOT, "browsers", "corpus")
 FAILED = ("error", "failed", "type-error", "late")
 # Scenarios of which no recording is made: of bytes that are no head, and of URLs that no tool records.
 LEFT_OUT = ("wire", "urls/schemes")
+# Where both refuse, for reasons of their own: docs/BROWSERS.md, `policy-before-scheme` and `blank-in-a-host`.
+OTHER_CAUSES = ("reports/other-schemes", "urls/blank-in-a-host")
 # What the tools of Chromium tell no error of.
 SILENT = re.compile("integrity|MIME|nosniff", re.I)
 ORDER = "2026-12-01T%02d:%02d:%02d.%06dZ"
@@ -104,8 +106,7 @@ class Writer:
         if last is None or waiting:
             yield from [self.stopped(command, waiting), *waiting]
         elif is_failed(told) and self.browser == "chromium" and not SILENT.search(" ".join(told["reasons"])):
-            is_orb = "ORB" in " ".join(told["reasons"])
-            last["response"]["_error"] = "net::ERR_BLOCKED_BY_ORB" if is_orb else "net::ERR_FAILED"
+            last["response"]["_error"] = error_of(told["reasons"])
 
     def sent(self, command: dict[str, Any], request: Request) -> dict[str, Any]:
         kind = command["load"]["kind"] if "load" in command else "fetch"
@@ -132,6 +133,13 @@ class Writer:
         return made.entry(self.browser, url, given.get("kind", "fetch"), 0, (), (), method, "net::ERR_FAILED")
 
 
+def error_of(reasons: list[str]) -> str:
+    """The word that Chromium's tools have for a failure."""
+    if "ORB" in " ".join(reasons):
+        return "net::ERR_BLOCKED_BY_ORB"
+    return next((reason for reason in reasons if reason.startswith("net::")), "net::ERR_FAILED")
+
+
 def mode_of(command: dict[str, Any]) -> str:
     if "fetch" in command:
         return command["fetch"].get("mode", "cors")
@@ -141,6 +149,23 @@ def mode_of(command: dict[str, Any]) -> str:
 
 def is_failed(told: dict[str, Any]) -> bool:
     return told["result"]["result"] in FAILED
+
+
+def reasons() -> dict[str, list[tuple[str, list[str]]]]:
+    """The engine's errors that a browser's own reasons stand for, as browsers/reasons.js has them: its lists are
+    Python's too, without `const` and semicolons."""
+    with open(os.path.join(ROOT, "browsers", "reasons.js"), encoding="utf-8") as file:
+        text = file.read()
+    tables = text[text.index("const CORS"):text.index("const TABLES")]
+    found: dict[str, Any] = {}
+    exec(re.sub(r"const (\w+) = ", r"\1 = (", tables).replace(";\n", ")\n"), {}, found)
+    return {"chromium": found["CHROMIUM"], "firefox": found["FIREFOX"]}
+
+
+def causes(table: list[tuple[str, list[str]]], told: dict[str, Any]) -> list[str]:
+    """The names of the errors that a browser's reasons for a failure stand for; none where they say too little."""
+    return [name for form, names in table for reason in told["reasons"]
+            if re.fullmatch(f"{form}( .*)?", reason, re.S) for name in names]
 
 
 def untold(stored: Stored, number: int) -> Optional[str]:

@@ -6,6 +6,7 @@ from typing import Any, Optional
 
 from commands.case import LOCAL, REDIRECTS, Case
 from commands.explanations import Explanation
+from commands.play_text import is_preflight
 from commands.urls import scheme_of
 from recorded import errors
 from recorded.commands_of import Command
@@ -20,10 +21,13 @@ INTEGRITY = 22
 BY_ANSWER = "the recorded answer is refused as it stands"
 OTHER = Supposed(other_credentials=True)
 BARE = Supposed(bare=True)
+ANEW = Supposed(anew=True)
+ANEW_OTHER = Supposed(anew=True, other_credentials=True)
 BEFORE = "nothing is sent: the page's policies and URLs decide it"
 BY_PREFLIGHT = "the recorded answer to the preflight is refused as it stands"
 NO_PREFLIGHT = "its preflight is not recorded, and it was answered: an earlier page may have asked"
 FOLLOWS = "taken to follow redirects, as requests do that do not say otherwise"
+COVERED = "the browser made it anew, where the standards' preflight cache still knows an earlier answer"
 HIDDEN = "the recording hides the answer"
 WITH_CREDENTIALS = ("asked with credentials this is so, which the recording does not show; without them what is "
                     "recorded passes")
@@ -53,12 +57,15 @@ class Finding:
 
 @dataclass
 class Cases:
-    """One command as it was played: as recorded, with its credentials the other way, and with a bare answer."""
+    """One command as it was played: as recorded, with its credentials the other way, with a bare answer, and with its
+    preflight made anew, in both ways of credentials."""
 
     plain: Optional[Case]
     problem: str = ""
     other: Optional[Case] = None
     bare: Optional[Case] = None
+    anew: Optional[Case] = None
+    anew_other: Optional[Case] = None
 
 
 def failed_of(chain: Chain) -> Optional[Entry]:
@@ -102,6 +109,11 @@ def explanation_of(case: Case) -> Optional[Explanation]:
     return refusing[0] if refusing else case.explanation
 
 
+def lacks_preflight(case: Case, chain: Chain) -> bool:
+    """Whether a preflight is recorded that the play does not make, since its cache covers it."""
+    return bool(chain.preflights) and not any(is_preflight(request) for request, _ in case.exchanges)
+
+
 def way_of(case: Case) -> str:
     explanation = explanation_of(case)
     return explanation.way if explanation else ""
@@ -130,6 +142,10 @@ def bare_verdict(command: Command, cases: Cases, tells_errors: bool) -> Finding:
     if is_unanswered(case):
         told = f"the standards ask {case.asked_url}, of which no answer is recorded"
         return Finding(command, OPEN if failed else PARTED if upgrade_of(case) else UNJUDGED, case, told=told)
+    if failed and cases.anew is not None and is_refused(cases.anew, command):
+        return Finding(command, REFUSED, cases.anew, how_sure=f"{BY_PREFLIGHT}; {COVERED}", supposed=ANEW)
+    if failed and cases.anew_other is not None and is_refused(cases.anew_other, command):
+        return Finding(command, REFUSED, cases.anew_other, "if", f"{WITH_CREDENTIALS}; {COVERED}", supposed=ANEW_OTHER)
     refused = is_refused(case, command)
     if refused and failed:
         return of_refused_failure(command, cases, failed)
