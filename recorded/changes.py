@@ -4,14 +4,16 @@ from __future__ import annotations
 
 import functools
 import re
-from dataclasses import dataclass, field
+from dataclasses import dataclass
 from typing import Any
 
 from commands.csp import HEADERS as POLICIES
+from commands.scenario import origin_of
 from commands.urls import host_of, secure
 from recorded.known_hosts import LATEST, is_known
 
 Pairs = list[tuple[str, str]]
+AUTHORITY = re.compile(r"^[A-Za-z]+://[^/?#]*")
 UPGRADE = "upgrade-insecure-requests"
 POLICY = "Content-Security-Policy"
 REPORT_ONLY = POLICY + "-Report-Only"
@@ -50,7 +52,8 @@ class Changes:
     referrer_policy: str | None = None
     hsts: tuple[tuple[str, bool], ...] = ()
     upgrade: bool = False
-    headers: tuple[HeaderChange, ...] = field(default=())
+    headers: tuple[HeaderChange, ...] = ()
+    origins: tuple[tuple[str, str], ...] = ()  # of sites that move: the old one and the new one
 
     def __bool__(self) -> bool:
         return self != Changes()
@@ -58,13 +61,21 @@ class Changes:
     @property
     def may_upgrade(self) -> bool:
         """Whether more may be asked over https than was recorded."""
-        texts = (self.csp or "", *(one.value or "" for one in self.headers))
+        texts = [self.csp or "", *(one.value or "" for one in self.headers)]
         return bool(self.hsts) or self.upgrade or any(UPGRADE in text.lower() for text in texts)
 
+    def moved(self, url: str) -> str:
+        """Where a URL is, should its site move."""
+        for old, new in self.origins:
+            if origin_of(url) == old:
+                return new + AUTHORITY.sub("", url, 1)
+        return url
+
     def of_answer(self, url: str, headers: Pairs) -> Pairs:
+        """The headers of the answer at a URL. One that redirects to a site that moves leads to where it is then."""
         for change in self.headers:
             headers = change.made(headers) if change.fits(url) else headers
-        return headers
+        return [(name, self.moved(value) if name.lower() == "location" else value) for name, value in headers]
 
     def of_page(self, url: str, headers: Pairs, policies: list[str]) -> tuple[Pairs, list[str]]:
         """The headers of a document, and the policies of its meta elements. A policy stands in the place of those
@@ -80,7 +91,8 @@ class Changes:
         return headers + [(name, value) for name, value in added if value is not None], policies
 
     def page_url(self, url: str) -> str:
-        """Where the page itself is, should its host be a known one now."""
+        """Where the page itself is, should its site move, or its host be a known one now."""
+        url = self.moved(url)
         return secure(url) if url.startswith("http:") and is_known(host_of(url), self.known_hosts()) else url
 
     def known_hosts(self) -> list[dict[str, Any]]:
@@ -95,6 +107,7 @@ class Changes:
         found += [f"{POLICY}: {UPGRADE}, beside the others"] if self.upgrade else []
         found += [f"{host}{' and its subdomains' if below else ''} known to want https (HSTS)"
                   for host, below in self.hsts]
+        found += [f"{old} moved to {new}" for old, new in self.origins]
         found += [f"answers of {one.pattern}: " + (f"{one.name}: {one.value}" if one.value is not None
                                                    else f"without {one.name}") for one in self.headers]
         return found
@@ -113,3 +126,11 @@ def header_change(text: str, is_set: bool) -> HeaderChange:
         raise ValueError("write it as 'https://api.example/* Name: value'" if is_set
                          else "write it as 'https://api.example/* Name'")
     return HeaderChange(pattern, name.strip(), value.strip() if is_set else None)
+
+
+def move(text: str) -> tuple[str, str]:
+    """The origins that words name: `OLD=NEW`. Raises ValueError."""
+    old, equals, new = (part.strip().rstrip("/") for part in text.partition("="))
+    if not equals or origin_of(old) != old or origin_of(new) != new:
+        raise ValueError("write it as https://old.example=https://new.example: two origins, without a path")
+    return old, new

@@ -12,15 +12,37 @@ from recorded.known_hosts import is_domain
 from recorded import changes, differences, har, judging, redacting, telling, writing
 
 GOOD, BAD, WRONG, FAILED = range(4)
+# The words of changes, and whether each has a value.
+CHANGES = {"csp": True, "csp-report-only": True, "no-csp": False, "referrer-policy": True, "hsts": True,
+           "upgrade": False, "set": True, "unset": True, "origin": True}
 
 
-def change(is_set: bool) -> Any:
-    def of_word(word: str) -> changes.HeaderChange:
+def typed(read: Any, *more: Any) -> Any:
+    """What argparse calls for a word: its ValueError has a sentence that is told."""
+    def of_word(word: str) -> Any:
         try:
-            return changes.header_change(word, is_set)
+            return read(word, *more)
         except ValueError as error:
             raise argparse.ArgumentTypeError(str(error)) from None
     return of_word
+
+
+def words_of_file(path: str) -> list[str]:
+    """The words that a file of changes has."""
+    try:
+        with open(path, encoding="utf-8") as file:
+            lines = [line.strip() for line in file]
+    except (OSError, UnicodeDecodeError) as error:
+        raise argparse.ArgumentTypeError(f"{path}: {getattr(error, 'strerror', None) or error}") from None
+    found: list[str] = []
+    for number, line in enumerate(lines, 1):
+        name, _, value = line.partition(" ")
+        if not line or line.startswith("#"):
+            continue
+        if name not in CHANGES:
+            raise argparse.ArgumentTypeError(f"{path}:{number}: {name} is none of {', '.join(CHANGES)}")
+        found += ["--" + name] + ([value.strip()] if CHANGES[name] else [])
+    return found
 
 
 def domain(word: str) -> tuple[str, bool]:
@@ -56,10 +78,16 @@ def read_words(self: str, words: list[str]) -> argparse.Namespace:
     asked.add_argument("--hsts", metavar="HOST[,subdomains]", action="append", type=domain, default=[],
                        help="a host that is known to want https")
     asked.add_argument("--upgrade", action="store_true", help="upgrade-insecure-requests, beside the pages' policies")
-    asked.add_argument("--set", metavar="'URL-PATTERN Name: value'", action="append", type=change(True), default=[],
+    asked.add_argument("--set", metavar="'URL-PATTERN Name: value'", action="append", default=[],
+                       type=typed(changes.header_change, True),
                        help="a header of answers, those of the pages too; * stands for any text")
-    asked.add_argument("--unset", metavar="'URL-PATTERN Name'", action="append", type=change(False), default=[],
+    asked.add_argument("--unset", metavar="'URL-PATTERN Name'", action="append", default=[],
+                       type=typed(changes.header_change, False),
                        help="a header that goes")
+    asked.add_argument("--origin", metavar="OLD=NEW", action="append", type=typed(changes.move), default=[],
+                       help="a site that moves to another origin")
+    asked.add_argument("--changes", metavar="FILE", type=words_of_file, default=[],
+                       help="a file of these words, one a line: a name without --, a blank, and its value")
     printed = parser.add_argument_group("what is printed and written")
     form = printed.add_mutually_exclusive_group()
     form.add_argument("--brief", action="store_true", help="a line for each verdict alone")
@@ -68,6 +96,8 @@ def read_words(self: str, words: list[str]) -> argparse.Namespace:
     printed.add_argument("--redact", metavar="OUT",
                          help="write the recording without cookies, Authorization and bodies, and play nothing")
     given = parser.parse_args(words)
+    if given.changes:
+        given = parser.parse_args([*given.changes, *words])
     if given.no_csp and (given.csp is not None or given.csp_report_only is not None):
         parser.error("--no-csp stands without --csp and --csp-report-only")
     if given.redact and given.scenario:
@@ -77,7 +107,7 @@ def read_words(self: str, words: list[str]) -> argparse.Namespace:
 
 def changes_of(given: argparse.Namespace) -> changes.Changes:
     return changes.Changes(given.csp, given.csp_report_only, given.no_csp, given.referrer_policy, tuple(given.hsts),
-                           given.upgrade, (*given.set, *given.unset))
+                           given.upgrade, (*given.set, *given.unset), tuple(given.origin))
 
 
 def main(self: str, words: list[str]) -> int:
@@ -108,17 +138,16 @@ def redact(self: str, data: bytes, given: argparse.Namespace) -> int:
 
 
 def told(self: str, recording: Any, given: argparse.Namespace) -> int:
-    made = changes_of(given)
+    made, written = changes_of(given), []
     if given.scenario:
         written, wrong = writing.write(given.scenario, recording, made)
         if wrong:
             return streams.complain(WRONG, f"{self}: {wrong}")
-        if not given.json:
-            streams.write_lines(f"wrote {path}" for path in written)
     found = judging.judge(recording, made)
     if given.json:
         streams.write_json(found)
     else:
         streams.write_lines(telling.lines(found, given.brief))
+        streams.write_lines(f"wrote {path}" for path in written)
     is_bad = differences.breaks(found) if made else judging.fails(found)
     return BAD if is_bad else GOOD

@@ -5,7 +5,7 @@ from __future__ import annotations
 from collections import Counter
 from typing import Any
 
-from recorded import differences, parts as parting, verdicts
+from recorded import differences, doubts, parts as parting, verdicts
 from recorded.changes import NONE, Changes
 from recorded.model import Page, Recording
 from recorded.plays import Played, played
@@ -25,6 +25,7 @@ def judge(recording: Recording, changes: Changes = NONE) -> dict[str, Any]:
     found["pages"] = [page_data(page, own, recording) for page, own in judged]
     if changes:
         found["changes"] = changes.told()
+        found["warnings"] = doubts.of_changes(changes, recording.pages[0].url) if recording.pages else []
         found.update(differences.of_pages(judged, changes))
     return found
 
@@ -79,7 +80,7 @@ def page_data(page: Page, judged: list[tuple[Part, list[Finding]]], recording: R
         "findings": [verdicts.data_of(finding) for finding in findings],
         "parts": parted,
         "left_out": [{"entry": entry.number, "url": entry.url, "why": why} for entry, why in page.left_out],
-        "notes": notes}
+        "warnings": doubts.of_page(page), "notes": notes}
 
 
 def count_of(page: Page) -> int:

@@ -65,17 +65,17 @@ def rules_of(command: Command, page: Page, supposed: Supposed, changes: Changes,
     their URLs. None where one request was answered in two ways, as a login does that leads back."""
     chain, found = command.chain, {}
     for number, hop in enumerate(chain.hops):
-        passing = passing_headers(origin_at(chain, number, origin_of(changes.page_url(page.url)) or ""))
+        passing = passing_headers(origin_at(chain, number, origin_of(changes.page_url(page.url)) or "", changes))
         rule = rule_of(hop, passing + [("Content-Type", TYPES[command.kind])], supposed)
         if hop is chain.last and command.body is not None:
             rule["body"] = command.body
-        url = hop.url if number else without_templates(hop.url)
+        url = changes.moved(hop.url if number else without_templates(hop.url))
         if found.setdefault(key_of(url, hop.method), rule) != rule:
             return None
         if is_preflightable(command, number):
             preflight = chain.preflights.get(number, earlier.get(hop.bare_url))
             found[key_of(url, "OPTIONS")] = preflight_rule(command, hop, preflight, passing, supposed)
-    if changes.headers:
+    if changes.headers or changes.origins:
         for (origin, _, target), rule in found.items():
             rule["headers"] = list(map(list, changes.of_answer(origin + target, rule["headers"])))
     if changes.may_upgrade:
@@ -113,9 +113,9 @@ def preflight_rule(command: Command, hop: Entry, preflight: Optional[Entry], pas
                         *([("Access-Control-Allow-Headers", names)] if names else [])])
 
 
-def origin_at(chain: Chain, number: int, page_origin: str) -> str:
+def origin_at(chain: Chain, number: int, page_origin: str, changes: Changes) -> str:
     """The origin that the request of a hop names: `null` once another origin than the page's has led to a third one."""
-    origins = [hop.origin for hop in chain.hops[:number + 1]]
+    origins = [origin_of(changes.moved(hop.url)) for hop in chain.hops[:number + 1]]
     is_tainted = any(one != other and one != page_origin for one, other in zip(origins, origins[1:]))
     return "null" if is_tainted else page_origin
 

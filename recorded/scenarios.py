@@ -112,13 +112,13 @@ def scenario_of(part: Part, rules: Rules, supposed: Supposed, changes: Changes) 
     if page.top:
         document["top"] = changes.page_url(page.top)
     document["headers"] = [list(pair) for pair in document_headers(page, changes)]
-    document["script"] = list(script_of(part, supposed))
+    document["script"] = list(script_of(part, supposed, changes))
     data: dict[str, Any] = {"format": 2, "body_limit": commands_of.LARGEST_BODY}
     hsts = part.hsts + changes.known_hosts()
     return {**data, **({"hsts": hsts} if hsts else {}), "servers": servers_of(rules), "documents": [document]}
 
 
-def script_of(part: Part, supposed: Supposed) -> Iterator[dict[str, Any]]:
+def script_of(part: Part, supposed: Supposed, changes: Changes) -> Iterator[dict[str, Any]]:
     """The commands in their order, with the whole seconds between them."""
     clock, begun = 0, part.page.entry.started if part.page.entry else None
     for command in part.commands:
@@ -132,7 +132,8 @@ def script_of(part: Part, supposed: Supposed) -> Iterator[dict[str, Any]]:
             yield {"wait": seconds - clock}
             clock = seconds
         is_other = supposed.other_credentials and command.asked.is_open
-        yield (command.with_other_credentials() if is_other else command).data
+        word, options = next(iter((command.with_other_credentials() if is_other else command).data.items()))
+        yield {word: {**options, "url": changes.moved(options["url"])}}
 
 
 def document_headers(page: Page, changes: Changes = NONE) -> list[tuple[str, str]]:

@@ -97,6 +97,7 @@ def rest_of_page(page: dict[str, Any]) -> Iterator[str]:
     yield from some(notes, lambda pair: f"  note: entry {pair[0]['entry']}, {name_of(pair[0])}: {pair[1]}")
     yield from some(page["left_out"],
                     lambda one: f"  left out: entry {one['entry']}, {shown(one['url'])}: {one['why']}")
+    yield from some(page["warnings"], lambda warning: f"  warning: {warning}")
     yield from (f"  note: {note}" for note in page["notes"])
 
 
@@ -127,6 +128,7 @@ def changed_lines(found: dict[str, Any], is_brief: bool) -> Iterator[str]:
     """The verdict on changes, and the groups of what they change."""
     yield from (f"with {change}" for change in found["changes"])
     yield outcome(found)
+    yield from (f"  warning: {warning}" for warning in found["warnings"])
     for moved in found["moved"]:
         yield f"  note: the page {shown(moved['from'])} would itself be {shown(moved['to'])}"
     for group in found["groups"]:
