@@ -2,13 +2,15 @@
 first."""
 from __future__ import annotations
 
+from dataclasses import replace
 from typing import Any, Iterator, Optional
 
-from commands import findings
+from commands import csp, findings
 from commands.case import Case
 from commands.results import NETWORK_ERRORS
 from commands.urls import host_of
 from recorded import verdicts
+from recorded.browser_rules import LETS_PASS, RESULT, STOPS, Difference, rule_of
 from recorded.changes import Changes
 from recorded.model import Page
 from recorded.plays import Played, played
@@ -18,20 +20,23 @@ from recorded.verdicts import Finding
 
 BROKEN, WITH, MENDED, REPORTED, UPGRADED = "broken", "goes with it", "mended", "reported", "upgraded"
 ORDER = (BROKEN, WITH, REPORTED, MENDED, UPGRADED)
+STANDARDS = "standards"
 WORKED = (verdicts.PASSED,)
 DID_NOT = (verdicts.REFUSED, verdicts.UNREACHED)
 Judged = list[tuple[Page, list[tuple[Part, list[Finding]]]]]
 
 
-def of_pages(judged: Judged, changes: Changes) -> dict[str, Any]:
+def of_pages(judged: Judged, changes: Changes, browser: str) -> dict[str, Any]:
     """All differences, and the groups that they make."""
-    found = [one for number, (page, parts) in enumerate(judged) for one in of_page(number, page, parts, changes)]
+    found = [one for number, (page, parts) in enumerate(judged)
+             for one in of_page(number, page, parts, changes, browser)]
     return {"differences": found, "groups": groups_of(found),
             "moved": [{"from": page.url, "to": changes.page_url(page.url)} for page, _ in judged
                       if changes.page_url(page.url) != page.url]}
 
 
-def of_page(number: int, page: Page, parts: list[tuple[Part, list[Finding]]], changes: Changes) -> list[dict[str, Any]]:
+def of_page(number: int, page: Page, parts: list[tuple[Part, list[Finding]]], changes: Changes,
+            browser: str) -> list[dict[str, Any]]:
     found, all_findings = [], []
     for part, own in parts:
         all_findings += own
@@ -43,15 +48,23 @@ def of_page(number: int, page: Page, parts: list[tuple[Part, list[Finding]]], ch
                 after[finding.supposed] = played(part, finding.supposed, changes)
             case = after[finding.supposed].cases.get(index)
             if case is not None:
-                found += [{"page": number, **one} for one in of_command(finding, case)]
+                found += [{"page": number, **one} for one in of_command(finding, case, page, browser)]
     return found + [{"page": number, **one} for one in gone_with(found, all_findings)]
 
 
-def of_command(finding: Finding, after: Case) -> Iterator[dict[str, Any]]:
+def of_command(finding: Finding, after: Case, page: Page, browser: str) -> Iterator[dict[str, Any]]:
     """What is otherwise of one request."""
     was, is_now = verdicts.is_refused(finding.case, finding.command), verdicts.is_refused(after, finding.command)
     if finding.verdict in WORKED and is_now and not verdicts.is_unanswered(after):
-        yield difference(BROKEN, finding, after)
+        rule = rule_of(Difference(RESULT, replace(finding, case=after), page, after.url), browser, LETS_PASS)
+        yield {**difference(BROKEN, finding, after), "by": STANDARDS, "rule": rule.name if rule else None}
+    elif finding.verdict in WORKED and browser and stopped_by(finding, finding.case, page, browser) is None \
+            and stopped_by(finding, after, page, browser):
+        rule = stopped_by(finding, after, page, browser)
+        directive = next((name for enforced, policy in after.policies if enforced
+                          for name, _ in [csp.deciding(policy, csp.EFFECTIVE[finding.command.kind])]), "")
+        yield {**difference(BROKEN, finding, after, "the standards let it pass, and the browser does not", directive),
+               "by": browser, "rule": rule}
     elif finding.verdict in DID_NOT and was and not is_now:
         yield difference(MENDED, finding, finding.case, "" if not verdicts.is_unanswered(after) else
                          f"{after.asked_url} is asked then, of which no answer is recorded")
@@ -61,6 +74,12 @@ def of_command(finding: Finding, after: Case) -> Iterator[dict[str, Any]]:
     urls = [url for url in findings.upgrades(after) if url not in findings.upgrades(finding.case)]
     if urls and finding.verdict in WORKED and (not is_now or verdicts.is_unanswered(after)):
         yield difference(UPGRADED, finding, after, f"{urls[0]} is asked then: whether it answers is not recorded")
+
+
+def stopped_by(finding: Finding, case: Case, page: Page, browser: str) -> Optional[str]:
+    """The rule by which the browser alone stops a request; None where it does not."""
+    rule = rule_of(Difference(RESULT, replace(finding, case=case), page, case.url), browser, STOPS)
+    return rule.name if rule else None
 
 
 def reporting(case: Case) -> set[str]:

@@ -26,7 +26,7 @@ def judge(recording: Recording, changes: Changes = NONE) -> dict[str, Any]:
     if changes:
         found["changes"] = changes.told()
         found["warnings"] = doubts.of_changes(changes, recording.pages[0].url) if recording.pages else []
-        found.update(differences.of_pages(judged, changes))
+        found.update(differences.of_pages(judged, changes, recording.browser))
     return found
 
 

@@ -61,15 +61,15 @@ def recording(data: dict[str, Any], played: list[Case], browser: str) -> dict[st
     """The recording of a scenario's play."""
     document = data["documents"][0]
     page = entry(browser, document["url"], "document", 200, [*HTML, *document["headers"]], (), "GET")
-    page["response"]["content"] = {"text": "".join(map(tag_of, document["script"]))}
+    page["response"]["content"] = {"text": "<p>" + "".join(map(tag_of, document["script"]))}
     entries = [page] + [one for case in played for one in entries_of(case, browser)]
     return {"log": {"creator": {"name": CREATORS[browser]}, "entries": entries}}
 
 
 def tag_of(command: dict[str, Any]) -> str:
-    """The element that loads, where one does."""
+    """The element that loads, where the parser inserts one."""
     load = command.get("load")
-    if load is None or load["kind"] not in TAGS:
+    if load is None or load["kind"] not in TAGS or not load.get("parser", True):
         return ""
     names = [name for name in ("integrity", "nonce", "crossorigin") if name in load]
     attributes = "".join(f' {name}="{html.escape(load[name])}"' for name in names)
@@ -105,9 +105,10 @@ def sent(case: Case, request: Any, answer: Any, browser: str) -> dict[str, Any]:
     if is_trustworthy(request.origin):
         destination = "empty" if case.kind == "fetch" else case.kind
         own += [("Sec-Fetch-Dest", destination), ("Sec-Fetch-Mode", case.command.options["mode"])]
-    one = entry(browser, case.whole(request), case.kind, answer.head.status, answer.head.headers, own, request.method)
-    body = answer.body()
-    one["response"]["content"] = {"size": len(body), "text": body.decode("latin-1")}
+    status, got = (answer.head.status, answer.head.headers) if answer.head else (0, [])
+    one = entry(browser, case.whole(request), case.kind, status, got, own, request.method)
+    if answer.head:
+        one["response"]["content"] = {"size": len(answer.body()), "text": answer.body().decode("latin-1")}
     return one
 
 

@@ -19,8 +19,9 @@ CORPUS = os.path.join(ROOT, "browsers", "corpus")
 FAILED = ("error", "failed", "type-error", "late")
 # Scenarios of which no recording is made: of bytes that are no head, and of URLs that no tool records.
 LEFT_OUT = ("wire", "urls/schemes")
-# Where both refuse, for reasons of their own: docs/BROWSERS.md, `policy-before-scheme` and `blank-in-a-host`.
-OTHER_CAUSES = ("reports/other-schemes", "urls/blank-in-a-host")
+# Where both refuse, for reasons of their own: docs/BROWSERS.md, `policy-before-scheme`, `policy-before-port` and
+# `blank-in-a-host`.
+OTHER_CAUSES = ("reports/other-schemes", "reports/bad-port-and-policy", "urls/blank-in-a-host")
 # What the tools of Chromium tell no error of.
 SILENT = re.compile("integrity|MIME|nosniff", re.I)
 ORDER = "2026-12-01T%02d:%02d:%02d.%06dZ"
@@ -62,8 +63,7 @@ class Writer:
             field = "max-age=600; includeSubDomains" if host["subdomains"] else "max-age=600"
             self.add(self.page(f"https://{host['host']}/", [["Strict-Transport-Security", field]]), 0, 0)
         page = self.page(self.document["url"], self.document.get("headers", []))
-        tags = (made.tag_of(one) for one in commands if next(iter(one.values())).get("parser", True))
-        page["response"]["content"] = {"text": "<p>" + "".join(tags)}
+        page["response"]["content"] = {"text": "<p>" + "".join(map(made.tag_of, commands))}
         self.add(page, 1, 0)
         clocks = list(self.clocks())
         for number, (command, own) in enumerate(zip(commands, told)):
@@ -140,6 +140,15 @@ def error_of(reasons: list[str]) -> str:
     return next((reason for reason in reasons if reason.startswith("net::")), "net::ERR_FAILED")
 
 
+def without_policies(scenario: dict[str, Any]) -> tuple[dict[str, Any], str]:
+    """A scenario without the policies that its document enforces, and these as one text."""
+    document = scenario["documents"][0]
+    headers = document.get("headers", [])
+    policies = [value for name, value in headers if name.lower() == "content-security-policy"]
+    left = [pair for pair in headers if pair[0].lower() != "content-security-policy"]
+    return {**scenario, "documents": [{**document, "headers": left}]}, ", ".join(policies)
+
+
 def mode_of(command: dict[str, Any]) -> str:
     if "fetch" in command:
         return command["fetch"].get("mode", "cors")
@@ -166,6 +175,11 @@ def causes(table: list[tuple[str, list[str]]], told: dict[str, Any]) -> list[str
     """The names of the errors that a browser's reasons for a failure stand for; none where they say too little."""
     return [name for form, names in table for reason in told["reasons"]
             if re.fullmatch(f"{form}( .*)?", reason, re.S) for name in names]
+
+
+def policy_causes(told: dict[str, Any]) -> list[str]:
+    """The names of the errors by which an enforced policy refuses, where one did."""
+    return ["CspRequest", "CspResponse"] if any(one["enforced"] for one in told["violations"]) else []
 
 
 def untold(stored: Stored, number: int) -> Optional[str]:

@@ -5,6 +5,7 @@ from __future__ import annotations
 from typing import Any, Iterator, Optional
 
 from commands.summaries import shown
+from recorded.differences import STANDARDS
 from recorded.kinds import WITHOUT
 from recorded.verdicts import WORDS
 
@@ -148,7 +149,10 @@ def outcome(found: dict[str, Any]) -> str:
 
 
 def difference_line(one: dict[str, Any]) -> str:
-    said = one["told"] or one["why"]
-    cause = f"entry {one['cause']} is refused, which asked for it" if "cause" in one else ""
-    guessed = f" (guessed: {', and '.join(one['guesses'])})" if one["guesses"] else ""
-    return f"    {one['method']} {shown(one['url'])} ({one['load']}): {cause or said or one['directive']}{guessed}"
+    said = f"entry {one['cause']} is refused, which asked for it" if "cause" in one else one["told"] or one["why"]
+    guessed = f" ({', '.join(one['guesses'])})" if one["guesses"] else ""
+    named = f"    {one['method']} {shown(one['url'])} ({one['load']}): {said or one['directive']}{guessed}"
+    if not one.get("rule"):
+        return named
+    lets = "the browser lets it pass: " if one["by"] == STANDARDS else ""
+    return f"{named} ({lets}docs/BROWSERS.md, `{one['rule']}`)"
