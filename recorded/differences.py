@@ -10,8 +10,9 @@ from commands.case import Case
 from commands.results import NETWORK_ERRORS
 from commands.urls import host_of
 from recorded import verdicts
-from recorded.browser_rules import LETS_PASS, RESULT, STOPS, Difference, rule_of
+from recorded.browser_rules import LETS_PASS, STOPS, rule_of
 from recorded.changes import Changes
+from recorded.difference import RESULT, Difference
 from recorded.model import Page
 from recorded.plays import Played, played
 from recorded.rules import Supposed

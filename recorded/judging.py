@@ -5,7 +5,7 @@ from __future__ import annotations
 from collections import Counter
 from typing import Any
 
-from recorded import differences, doubts, parts as parting, verdicts
+from recorded import differences, doubts, finding_data, parts as parting, verdicts
 from recorded.changes import NONE, Changes
 from recorded.model import Page, Recording
 from recorded.plays import Played, played
@@ -77,7 +77,7 @@ def page_data(page: Page, judged: list[tuple[Part, list[Finding]]], recording: R
     return {
         "url": page.url, "top": page.top, "entry": page.entry.number if page.entry else None,
         "requests": count_of(page), "verdict": verdict_of(findings),
-        "findings": [verdicts.data_of(finding) for finding in findings],
+        "findings": [finding_data.data_of(finding) for finding in findings],
         "parts": parted,
         "left_out": [{"entry": entry.number, "url": entry.url, "why": why} for entry, why in page.left_out],
         "warnings": doubts.of_page(page), "notes": notes}
