@@ -7,6 +7,7 @@ from typing import Any, Iterator, Optional
 
 from commands import csp, findings
 from commands.case import Case
+from commands.play_text import header_of
 from commands.results import NETWORK_ERRORS
 from commands.urls import host_of
 from recorded import verdicts
@@ -19,8 +20,9 @@ from recorded.rules import Supposed
 from recorded.scenarios import Part
 from recorded.verdicts import Finding
 
-BROKEN, WITH, MENDED, REPORTED, UPGRADED = "broken", "goes with it", "mended", "reported", "upgraded"
-ORDER = (BROKEN, WITH, REPORTED, MENDED, UPGRADED)
+BROKEN, WITH, MENDED, REPORTED = "broken", "goes with it", "mended", "reported"
+UPGRADED, OTHERWISE = "upgraded", "sent otherwise"
+ORDER = (BROKEN, WITH, REPORTED, MENDED, UPGRADED, OTHERWISE)
 STANDARDS = "standards"
 WORKED = (verdicts.PASSED,)
 DID_NOT = (verdicts.REFUSED, verdicts.UNREACHED)
@@ -75,6 +77,18 @@ def of_command(finding: Finding, after: Case, page: Page, browser: str) -> Itera
     urls = [url for url in findings.upgrades(after) if url not in findings.upgrades(finding.case)]
     if urls and finding.verdict in WORKED and (not is_now or verdicts.is_unanswered(after)):
         yield difference(UPGRADED, finding, after, f"{urls[0]} is asked then: whether it answers is not recorded")
+    if finding.verdict in WORKED and not is_now and after.page_origin == finding.case.page_origin:
+        for name, value in sent_otherwise(finding.case, after):
+            yield difference(OTHERWISE, finding, after, f"{name}: {value or '(none)'}", name)
+
+
+def sent_otherwise(before: Case, after: Case) -> Iterator[tuple[str, Optional[str]]]:
+    """The Referer and the Origin of the first request, where another one is sent."""
+    if before.chain and after.chain:
+        for name in ("Referer", "Origin"):
+            value = header_of(after.chain[0][0], name)
+            if value != header_of(before.chain[0][0], name):
+                yield name, value
 
 
 def stopped_by(finding: Finding, case: Case, page: Page, browser: str) -> Optional[str]:

@@ -60,7 +60,7 @@ def with_scripts(data: dict[str, Any]) -> dict[str, Any]:
 def recording(data: dict[str, Any], played: list[Case], browser: str) -> dict[str, Any]:
     """The recording of a scenario's play."""
     document = data["documents"][0]
-    page = entry(browser, document["url"], "document", 200, [*HTML, *document["headers"]], (), "GET")
+    page = entry(browser, document["url"], "document", 200, [*HTML, *document.get("headers", [])], (), "GET")
     page["response"]["content"] = {"text": "<p>" + "".join(map(tag_of, document["script"]))}
     entries = [page] + [one for case in played for one in entries_of(case, browser)]
     return {"log": {"creator": {"name": CREATORS[browser]}, "entries": entries}}

@@ -12,9 +12,10 @@ from recorded.verdicts import WORDS
 MOST = 20  # lines of a kind
 TOLD = tuple(WORDS)
 KINDS = {"broken": "would be refused", "goes with it": "would not be asked any more", "reported": "would be reported",
-         "mended": "would be mended", "upgraded": "would be asked over https"}
+         "mended": "would be mended", "upgraded": "would be asked over https",
+         "sent otherwise": "would be sent otherwise"}
 BY = {"broken": "would be refused by {}", "reported": "would be reported by {}",
-      "mended": "would pass, which {} refuses now"}
+      "mended": "would pass, which {} refuses now", "sent otherwise": "would have another {}"}
 SURE = {"sure": "sure", "if": "likely", "supposed": "supposed"}
 
 
