@@ -57,29 +57,51 @@ def of_page(number: int, page: Page, parts: list[tuple[Part, list[Finding]]], ch
 
 def of_command(finding: Finding, after: Case, page: Page, browser: str) -> Iterator[dict[str, Any]]:
     """What is otherwise of one request."""
-    was, is_now = verdicts.is_refused(finding.case, finding.command), verdicts.is_refused(after, finding.command)
-    if finding.verdict in WORKED and is_now and not verdicts.is_unanswered(after):
-        rule = rule_of(Difference(RESULT, replace(finding, case=after), page, after.url), browser, LETS_PASS)
-        yield {**difference(BROKEN, finding, after), "by": STANDARDS, "rule": rule.name if rule else None}
-    elif finding.verdict in WORKED and browser and stopped_by(finding, finding.case, page, browser) is None \
-            and stopped_by(finding, after, page, browser):
-        rule = stopped_by(finding, after, page, browser)
-        directive = next((name for enforced, policy in after.policies if enforced
-                          for name, _ in [csp.deciding(policy, csp.EFFECTIVE[finding.command.kind])]), "")
-        yield {**difference(BROKEN, finding, after, "the standards let it pass, and the browser does not", directive),
-               "by": browser, "rule": rule}
-    elif finding.verdict in DID_NOT and was and not is_now:
-        yield difference(MENDED, finding, finding.case, "" if not verdicts.is_unanswered(after) else
-                         f"{after.asked_url} is asked then, of which no answer is recorded")
-    if finding.verdict in WORKED:
+    if finding.verdict in DID_NOT:
+        yield from of_failure(finding, after)
+    elif finding.verdict in WORKED:
+        is_refused = verdicts.is_refused(after, finding.command) and not verdicts.is_unanswered(after)
+        yield from broken(finding, after, page, browser) if is_refused else passing(finding, after, page, browser)
         for directive in sorted(reporting(after) - reporting(finding.case)):
             yield difference(REPORTED, finding, after, directive=directive)
+
+
+def of_failure(finding: Finding, after: Case) -> Iterator[dict[str, Any]]:
+    """A request that was refused, and is no more."""
+    if not verdicts.is_refused(finding.case, finding.command):
+        return
+    if verdicts.is_unanswered(after):
+        told = f"{after.asked_url} is asked then, of which no answer is recorded"
+        yield difference(MENDED, finding, finding.case, told)
+    elif not verdicts.is_refused(after, finding.command):
+        yield difference(MENDED, finding, finding.case)
+
+
+def broken(finding: Finding, after: Case, page: Page, browser: str) -> Iterator[dict[str, Any]]:
+    """A request that is refused now; perhaps the browser is known to let it pass."""
+    rule = rule_of(Difference(RESULT, replace(finding, case=after), page, after.url), browser, LETS_PASS)
+    yield {**difference(BROKEN, finding, after), "by": STANDARDS, "rule": rule.name if rule else None}
+
+
+def passing(finding: Finding, after: Case, page: Page, browser: str) -> Iterator[dict[str, Any]]:
+    """A request that still passes, by other URLs or headers perhaps, or that the browser alone stops."""
+    rule = stopped_by(finding, after, page, browser)
+    if rule and not stopped_by(finding, finding.case, page, browser):
+        yield {**difference(BROKEN, finding, after, "the standards let it pass, and the browser does not",
+                            directive_of_policies(finding, after)), "by": browser, "rule": rule}
+        return
     urls = [url for url in findings.upgrades(after) if url not in findings.upgrades(finding.case)]
-    if urls and finding.verdict in WORKED and (not is_now or verdicts.is_unanswered(after)):
+    if urls:
         yield difference(UPGRADED, finding, after, f"{urls[0]} is asked then: whether it answers is not recorded")
-    if finding.verdict in WORKED and not is_now and after.page_origin == finding.case.page_origin:
+    if after.page_origin == finding.case.page_origin:
         for name, value in sent_otherwise(finding.case, after):
             yield difference(OTHERWISE, finding, after, f"{name}: {value or '(none)'}", name)
+
+
+def directive_of_policies(finding: Finding, case: Case) -> str:
+    """The directive by which the first enforced policy decides over a request."""
+    effective = csp.EFFECTIVE[finding.command.kind]
+    return next((csp.deciding(policy, effective)[0] for is_enforced, policy in case.policies if is_enforced), "")
 
 
 def sent_otherwise(before: Case, after: Case) -> Iterator[tuple[str, Optional[str]]]:
@@ -92,8 +114,8 @@ def sent_otherwise(before: Case, after: Case) -> Iterator[tuple[str, Optional[st
 
 
 def stopped_by(finding: Finding, case: Case, page: Page, browser: str) -> Optional[str]:
-    """The rule by which the browser alone stops a request; None where it does not."""
-    rule = rule_of(Difference(RESULT, replace(finding, case=case), page, case.url), browser, STOPS)
+    """The rule by which the browser, where it is known, alone stops a request; None where it does not."""
+    rule = browser and rule_of(Difference(RESULT, replace(finding, case=case), page, case.url), browser, STOPS)
     return rule.name if rule else None
 
 
