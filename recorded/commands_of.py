@@ -65,17 +65,16 @@ class Command:
 
 def of_page(page: Page) -> Iterator[Command]:
     """The commands of a page, in the order of its chains."""
-    policies = csp.policies(policy_headers(page))
+    policies, page_origin = csp.policies(policy_headers(page)), page.origin
     counts, numbers = Counter(chain.first.bare_url for chain in page.chains), Counter()
     for chain in page.chains:
         url = chain.first.bare_url
         element = page.html.element_of(url, numbers[url], counts[url]) if page.html else None
         numbers[url] += 1
-        yield of_chain(chain, page, policies, element)
+        yield of_chain(chain, page, asked_of(chain, page_origin, page.html, element), policies)
 
 
-def of_chain(chain: Chain, page: Page, policies: Policies, element: Optional[Element]) -> Command:
-    asked = asked_of(chain, page.url, page.html, element)
+def of_chain(chain: Chain, page: Page, asked: Asked, policies: Policies) -> Command:
     command = of_load(chain, page, asked, policies) if asked.is_load else of_fetch(chain, asked)
     command.notes += [note for held, note in ANSWERED if any(map(held, chain.hops))]
     return command

@@ -61,17 +61,27 @@ def headers_of(data: dict, place: str) -> list[tuple[str, str]]:
     HTTP/2, as `:path`, are no headers."""
     found: list[tuple[str, str]] = []
     for index, one in enumerate(fields.list_of(data, "headers", place)):
-        name, value = pair_of(one, f"{place}.headers[{index}]")
+        name, value = pair_of(one) or wanted_pair(one, f"{place}.headers[{index}]")
         if not is_token(name):
             continue
         if value.isprintable():  # as nearly all are
             found.append((name, value.strip(" ")))
         else:
-            found += [(name, line.strip("\t ")) for line in BREAKS.split(value)]
+            found += [(name, line.strip("\t ")) for line in BREAKS.split(fields.clean(value))]
     return found
 
 
-def pair_of(data: Any, place: str) -> tuple[str, str]:
+def pair_of(data: Any) -> Optional[tuple[str, str]]:
+    """The name and the value; None of what has not the form."""
+    if isinstance(data, dict):
+        name, value = data.get("name"), data.get("value")
+        if isinstance(name, str) and isinstance(value, str):
+            return name, value
+    return None
+
+
+def wanted_pair(data: Any, place: str) -> tuple[str, str]:
+    """The same, which says what is wrong."""
     fields.want(data, dict, place)
     return fields.text_of(data, "name", place), fields.text_of(data, "value", place)
 

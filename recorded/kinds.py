@@ -7,7 +7,6 @@ import re
 from dataclasses import dataclass, field
 from typing import Optional
 
-from commands.scenario import origin_of
 from commands.urls import scheme_of
 from recorded.model import Chain, Element, Entry, Html
 
@@ -106,7 +105,7 @@ def is_scripted(entry: Entry) -> bool:
     return entry.method != "GET" or entry.asked("X-Requested-With") is not None
 
 
-def asked_of(chain: Chain, page_url: str, html: Optional[Html], element: Optional[Element]) -> Asked:
+def asked_of(chain: Chain, page_origin: str, html: Optional[Html], element: Optional[Element]) -> Asked:
     """How the page asked for the beginning of a chain, by an element of its HTML perhaps."""
     entry = chain.first
     kind, reason = kind_of(entry, html)
@@ -116,17 +115,17 @@ def asked_of(chain: Chain, page_url: str, html: Optional[Html], element: Optiona
     element = element if element and element.kind == kind else None
     mode = (entry.asked("Sec-Fetch-Mode") or "").lower()
     if kind in LOADS:
-        return of_load(chain, Asked(kind, element=element, guesses=guesses), mode, page_url)
-    return of_fetch(chain, Asked(kind, guesses=guesses), mode, page_url)
+        return of_load(chain, Asked(kind, element=element, guesses=guesses), mode, page_origin)
+    return of_fetch(chain, Asked(kind, guesses=guesses), mode, page_origin)
 
 
-def of_load(chain: Chain, asked: Asked, mode: str, page_url: str) -> Asked:
+def of_load(chain: Chain, asked: Asked, mode: str, page_origin: str) -> Asked:
     is_cors = asked.kind in ("font", "manifest")
     entry = chain.first
     if asked.element and asked.element.crossorigin and mode != "no-cors":
         asked.crossorigin = asked.element.crossorigin
     elif not is_cors and (mode == "cors" or not mode and entry.asked("Origin") is not None):
-        is_foreign = entry.origin != origin_of(page_url)
+        is_foreign = entry.origin != page_origin
         asked.crossorigin = "use-credentials" if entry.has_cookies and is_foreign else "anonymous"
         asked.is_open = not entry.has_cookies and is_foreign
     asked.mode = "cors" if is_cors or asked.crossorigin else "no-cors"
@@ -134,14 +133,14 @@ def of_load(chain: Chain, asked: Asked, mode: str, page_url: str) -> Asked:
     return asked
 
 
-def of_fetch(chain: Chain, asked: Asked, mode: str, page_url: str) -> Asked:
+def of_fetch(chain: Chain, asked: Asked, mode: str, page_origin: str) -> Asked:
     entry = chain.first
     asked.mode = mode if mode in MODES else "no-cors" if entry.resource_type == "ping" else "cors"
-    is_without_origin = entry.has_all_headers and entry.asked("Origin") is None and entry.origin != origin_of(page_url)
+    is_without_origin = entry.has_all_headers and entry.asked("Origin") is None and entry.origin != page_origin
     if not mode and is_without_origin and scheme_of(entry.url) in ("http", "https"):
         asked.mode = "no-cors"
         asked.guesses.append("taken to be asked in mode no-cors, since it has no Origin")
-    foreign = [hop for hop in chain.hops if hop.origin != origin_of(page_url)]
+    foreign = [hop for hop in chain.hops if hop.origin != page_origin]
     if any(hop.has_cookies for hop in foreign) or asked.mode == "no-cors":
         asked.credentials = "include"
     elif foreign and asked.kind == FETCH and scheme_of(entry.url) in ("http", "https"):

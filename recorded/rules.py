@@ -13,7 +13,7 @@ from commands.scenario import origin_of
 from commands.urls import secure
 from recorded.changes import Changes
 from recorded.commands_of import Command, without_templates
-from recorded.model import Chain, Entry, Page
+from recorded.model import Chain, Entry
 
 # The headers of an answer that the rules of a fetch look at. The others are left out, so that answers which are alike
 # to a page are one.
@@ -55,26 +55,23 @@ def target_of(url: str) -> str:
     return f"{path}?{query}" if "?" in url.partition("#")[0] else path
 
 
-def key_of(url: str, method: str) -> Key:
-    return origin_of(url) or "", method, target_of(url)
-
-
-def rules_of(command: Command, page: Page, supposed: Supposed, changes: Changes,
+def rules_of(command: Command, page_origin: str, supposed: Supposed, changes: Changes,
              earlier: dict[str, Entry]) -> Optional[Rules]:
     """The answers that a command needs: of its hops, and of their preflights, of which `earlier` are those before by
     their URLs. None where one request was answered in two ways, as a login does that leads back."""
     chain, found = command.chain, {}
     for number, hop in enumerate(chain.hops):
-        passing = passing_headers(origin_at(chain, number, origin_of(changes.page_url(page.url)) or "", changes))
+        passing = passing_headers(origin_at(chain, number, page_origin, changes))
         rule = rule_of(hop, passing + [("Content-Type", TYPES[command.kind])], supposed)
         if hop is chain.last and command.body is not None:
             rule["body"] = command.body
         url = changes.moved(hop.url if number else without_templates(hop.url))
-        if found.setdefault(key_of(url, hop.method), rule) != rule:
+        origin, target = origin_of_hop(hop, changes), target_of(url)
+        if found.setdefault((origin, hop.method, target), rule) != rule:
             return None
         if is_preflightable(command, number):
             preflight = chain.preflights.get(number, earlier.get(hop.bare_url))
-            found[key_of(url, "OPTIONS")] = preflight_rule(command, hop, preflight, passing, supposed)
+            found[origin, "OPTIONS", target] = preflight_rule(command, hop, preflight, passing, supposed)
     if changes.headers or changes.origins:
         for (origin, _, target), rule in found.items():
             rule["headers"] = list(map(list, changes.of_answer(origin + target, rule["headers"])))
@@ -113,9 +110,14 @@ def preflight_rule(command: Command, hop: Entry, preflight: Optional[Entry], pas
                         *([("Access-Control-Allow-Headers", names)] if names else [])])
 
 
+def origin_of_hop(hop: Entry, changes: Changes) -> str:
+    """The origin of a hop, which may move."""
+    return (origin_of(changes.moved(hop.url)) if changes.origins else hop.origin) or ""
+
+
 def origin_at(chain: Chain, number: int, page_origin: str, changes: Changes) -> str:
     """The origin that the request of a hop names: `null` once another origin than the page's has led to a third one."""
-    origins = [origin_of(changes.moved(hop.url)) for hop in chain.hops[:number + 1]]
+    origins = [origin_of_hop(hop, changes) for hop in chain.hops[:number + 1]]
     is_tainted = any(one != other and one != page_origin for one, other in zip(origins, origins[1:]))
     return "null" if is_tainted else page_origin
 

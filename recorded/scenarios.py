@@ -12,6 +12,7 @@ from urllib.parse import urlsplit
 
 from commands import csp
 from commands.policy_questions import PLAIN as PLAIN_ORIGIN
+from commands.scenario import origin_of
 from recorded import commands_of
 from recorded.changes import NONE, Changes
 from recorded.commands_of import Command
@@ -80,8 +81,9 @@ def layers_of(part: Part, supposed: Supposed = PASSING,
     owned: list[set[int]] = []
     left: dict[int, str] = {}
     earlier: dict[str, Entry] = {}
+    page_origin = origin_of(changes.page_url(part.page.url)) or ""
     for number, command in enumerate(part.commands):
-        own = rules_of(command, part.page, supposed, changes, earlier)
+        own = rules_of(command, page_origin, supposed, changes, earlier)
         earlier.update((one.bare_url, one) for one in command.chain.preflights.values())
         places = (place for place, rules in enumerate(all_rules) if own is not None and fits(own, rules))
         place = next(places, len(all_rules))
