@@ -17,7 +17,7 @@ PARTS = ("a page of %d requests is played in %d parts: the preflight cache is em
 
 def judge(recording: Recording, changes: Changes = NONE) -> dict[str, Any]:
     """All that is said of a recording; with changes, what they would change."""
-    found = {"browser": recording.browser, "creator": recording.creator, "requests": recording.count,
+    found = {"browser": recording.browser, "creator": recording.creator, "entries": recording.count,
              "bad": [{"entry": number, "sentence": sentence} for number, sentence in recording.bad],
              "notes": recording.notes}
     judged = [(page, [(part, findings_of(part, recording)) for part in parts_of(page)])
@@ -76,7 +76,7 @@ def page_data(page: Page, judged: list[tuple[Part, list[Finding]]], recording: R
     parted = parting.of_findings(findings, page, recording)
     return {
         "url": page.url, "top": page.top, "entry": page.entry.number if page.entry else None,
-        "requests": count_of(page), "verdict": verdict_of(findings),
+        "entries": count_of(page), "verdict": verdict_of(findings),
         "findings": [finding_data.data_of(finding) for finding in findings],
         "parts": parted,
         "left_out": [{"entry": entry.number, "url": entry.url, "why": why} for entry, why in page.left_out],
@@ -84,7 +84,7 @@ def page_data(page: Page, judged: list[tuple[Part, list[Finding]]], recording: R
 
 
 def count_of(page: Page) -> int:
-    """How many requests of a page are recorded."""
+    """How many entries of the recording are a page's, without its own."""
     return len(page.left_out) + sum(len(chain.entries) - chain.is_lone_preflight for chain in page.chains)
 
 

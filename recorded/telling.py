@@ -31,14 +31,15 @@ def lines(found: dict[str, Any], is_brief: bool) -> Iterator[str]:
         if not is_brief:
             yield from rest_of_page(page)
     if not found["pages"]:
-        what = "has no entry that could be read" if found["requests"] else "is empty"
+        what = "has no entry that could be read" if found["entries"] else "is empty"
         yield f"no page: the recording {what}"
     yield from bad_lines(found)
 
 
 def heading(page: dict[str, Any]) -> str:
     frame = f", a frame of {shown(page['top'])}" if page["top"] else ""
-    return f"page {shown(page['url'])}{frame} ({count(page['requests'], 'request')}): {page['verdict']}"
+    entries = "1 entry" if page["entries"] == 1 else f"{page['entries']} entries"
+    return f"page {shown(page['url'])}{frame} ({entries}): {page['verdict']}"
 
 
 def count(number: int, word: str) -> str:
