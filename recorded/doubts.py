@@ -16,14 +16,14 @@ def of_headers(where: str, pairs: list[tuple[str, str]], url: str) -> list[str]:
 
 
 def of_page(page: Page) -> list[str]:
-    """Of the headers that its answer came with, and of the policies of its `meta` elements."""
+    """What is said of the headers that its answer came with, and of the policies of its `meta` elements."""
     headers = page.entry.got if page.entry else []
     policies = [(POLICY, policy) for policy in (page.html.policies if page.html else [])]
     return of_headers(DOCUMENT, [*headers, *policies], page.url)
 
 
 def of_changes(changes: Changes, url: str) -> list[str]:
-    """Of the words of changes. A value of answers is looked at as that of an https one."""
+    """What is said of the words of changes."""
     named = ((POLICY, changes.csp), (REPORT_ONLY, changes.csp_report_only), (REFERRER_POLICY, changes.referrer_policy))
     found = of_headers(DOCUMENT, [(name, value) for name, value in named if value is not None], url)
     for one in changes.headers:

@@ -1,6 +1,6 @@
-"""Writes a recording without its secrets: cookies, Authorization, bodies, and what WebSockets carried. Of each object
-the keys that are listed here stay, and no other. Values in URLs and in other headers stay, since nothing says which
-of them are secret; their names are told."""
+"""Writes a recording without its secrets: cookies, Authorization, bodies, and what WebSockets carried. The keys of each
+object that are listed here stay, and no other. Values in URLs and in other headers stay, since nothing says which of
+them are secret; their names are told."""
 from __future__ import annotations
 
 import json
