@@ -91,8 +91,8 @@ def of_fetch(chain: Chain, asked: Asked) -> Command:
 
 
 def url_of(chain: Chain, element: Optional[Element] = None) -> str:
-    """The URL as the page has it: that of the element, which an upgrade may have changed. The scheme of a `data:` URL is
-    all that is looked at."""
+    """The URL as the page has it: that of the element, which an upgrade may have changed. The scheme of a `data:` URL
+    is all that is looked at."""
     url = (element.url if element else chain.url).partition("#")[0]
     return "data:," if scheme_of(url) == "data" else without_templates(url)
 
