@@ -9,6 +9,7 @@ from typing import Any
 from commands import play_text, running, streams
 from commands.ask_words import POLICIES, known_host
 from recorded.known_hosts import is_domain
+from recorded.least import BY
 from recorded import changes, differences, har, judging, redacting, telling, writing
 
 GOOD, BAD, WRONG, FAILED = range(4)
@@ -88,6 +89,9 @@ def read_words(self: str, words: list[str]) -> argparse.Namespace:
                        help="a site that moves to another origin")
     asked.add_argument("--changes", metavar="FILE", type=words_of_file, default=[],
                        help="a file of these words, one a line: a name without --, a blank, and its value")
+    least = parser.add_argument_group("the least policy")
+    least.add_argument("--suggest-csp", action="store_true", help="the least policy under which all that came passes")
+    least.add_argument("--by", choices=BY, default="host", help="what its words name: host (as it is), path, or scheme")
     printed = parser.add_argument_group("what is printed and written")
     form = printed.add_mutually_exclusive_group()
     form.add_argument("--brief", action="store_true", help="a line for each verdict alone")
@@ -100,6 +104,8 @@ def read_words(self: str, words: list[str]) -> argparse.Namespace:
         given = parser.parse_args([*given.changes, *words])
     if given.no_csp and (given.csp is not None or given.csp_report_only is not None):
         parser.error("--no-csp stands without --csp and --csp-report-only")
+    if given.suggest_csp and (given.redact or given.scenario or changes_of(given)):
+        parser.error("--suggest-csp stands without changes, --redact and --scenario")
     if given.redact and given.scenario:
         parser.error("--redact stands without --scenario")
     return given
@@ -137,12 +143,23 @@ def redact(self: str, data: bytes, given: argparse.Namespace) -> int:
     return GOOD
 
 
+def suggested(recording: Any, given: argparse.Namespace) -> int:
+    found = judging.suggest(recording, given.by)
+    if given.json:
+        streams.write_json(found)
+    else:
+        streams.write_lines(telling.suggested_lines(found["suggested"], given.brief))
+    return BAD if found["suggested"]["broken"] else GOOD
+
+
 def told(self: str, recording: Any, given: argparse.Namespace) -> int:
     made, written = changes_of(given), []
     if given.scenario:
         written, wrong = writing.write(given.scenario, recording, made)
         if wrong:
             return streams.complain(WRONG, f"{self}: {wrong}")
+    if given.suggest_csp:
+        return suggested(recording, given)
     found = judging.judge(recording, made)
     if given.json:
         streams.write_json(found)

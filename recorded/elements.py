@@ -33,6 +33,8 @@ class Reader(HTMLParser):
         given: dict[str, str] = {}
         for name, value in attributes:
             given.setdefault(name, value or "")
+        self.html.inline["style attributes"] += "style" in given
+        self.html.inline["event handlers"] += sum(name.startswith("on") for name in given)
         handle = getattr(self, "read_" + tag, None)
         if handle:
             handle(given)
@@ -64,8 +66,13 @@ class Reader(HTMLParser):
             self.html.referrer_policy = content.strip().lower()
 
     def read_script(self, given: dict[str, str]) -> None:
-        is_module = given.get("type", "").strip().lower() == "module"
+        kind = given.get("type", "").strip().lower()
+        is_module = kind == "module"
+        self.html.inline["scripts"] += "src" not in given and (is_module or not kind or "javascript" in kind)
         self.add("script", given.get("src", ""), given, "anonymous" if is_module else None)
+
+    def read_style(self, given: dict[str, str]) -> None:
+        self.html.inline["style elements"] += 1
 
     def read_link(self, given: dict[str, str]) -> None:
         words, href = given.get("rel", "").lower().split(), given.get("href", "")

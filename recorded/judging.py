@@ -5,7 +5,7 @@ from __future__ import annotations
 from collections import Counter
 from typing import Any
 
-from recorded import differences, doubts, finding_data, parts as parting, verdicts
+from recorded import differences, doubts, finding_data, least, parts as parting, verdicts
 from recorded.changes import NONE, Changes
 from recorded.model import Page, Recording
 from recorded.plays import Played, played
@@ -28,6 +28,12 @@ def judge(recording: Recording, changes: Changes = NONE) -> dict[str, Any]:
         found["warnings"] = doubts.of_changes(changes, recording.pages[0].url) if recording.pages else []
         found.update(differences.of_pages(judged, changes, recording.browser))
     return found
+
+
+def suggest(recording: Recording, by: str) -> dict[str, Any]:
+    """The least policy under which all that was recorded passes."""
+    judged = [(page, [(part, findings_of(part, recording)) for part in parts_of(page)]) for page in recording.pages]
+    return {"suggested": least.suggested(judged, by)}
 
 
 def findings_of(part: Part, recording: Recording) -> list[Finding]:

@@ -4,6 +4,7 @@ from __future__ import annotations
 
 import base64
 import binascii
+from collections import Counter
 from dataclasses import dataclass, field
 from functools import cached_property
 from typing import Any, Optional
@@ -133,6 +134,7 @@ class Html:
     policies: list[str] = field(default_factory=list)
     referrer_policy: str = ""
     elements: dict[str, list[Element]] = field(default_factory=dict)
+    inline: Counter[str] = field(default_factory=Counter)  # how many scripts and styles stand in it
     frames: set[str] = field(default_factory=set)
 
     def element_of(self, url: str, number: int, count: int) -> Optional[Element]:

@@ -143,6 +143,19 @@ def changed_lines(found: dict[str, Any], is_brief: bool) -> Iterator[str]:
     yield from bad_lines(found)
 
 
+def suggested_lines(found: dict[str, Any], is_brief: bool) -> Iterator[str]:
+    """The least policy; and which request each of its words is for."""
+    yield f"Content-Security-Policy: {found['policy']}"
+    if is_brief:
+        return
+    yield f"  under it {count(found['requests'], 'request')} passed that came"
+    yield from (f"  {one['directive']} {one['word']}: without it entry {one['entry']} is refused, {shown(one['url'])}"
+                for one in found["words"])
+    yield from (f"  refused all the same: entry {one['entry']}, {shown(one['url'])}: {one['why']}"
+                for one in found["broken"])
+    yield from (f"  note: {note}" for note in found["notes"])
+
+
 def outcome(found: dict[str, Any]) -> str:
     counts = {kind: sum(one["kind"] == kind for one in found["differences"]) for kind in KINDS}
     told = [f"{number} {KINDS[kind]}" for kind, number in counts.items() if number]
