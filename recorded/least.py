@@ -11,6 +11,7 @@ from commands.scenario import origin_of
 from commands.urls import host_of, is_address, scheme_of
 from recorded import differences
 from recorded.changes import Changes
+from recorded.commands_of import policy_headers
 from recorded.differences import BROKEN, WORKED, Judged
 from recorded.model import Page
 from recorded.verdicts import Finding
@@ -23,16 +24,16 @@ Policy = dict[str, list[str]]
 
 def suggested(judged: Judged, by: str) -> dict[str, Any]:
     """The policy as a text, its words with the entry that each is for, and what is to be said of it."""
-    policy, words = policy_of(judged, by), []
-    broken = broken_under(judged, policy)
+    policy, kept, words = policy_of(judged, by), kept_of(judged), []
+    broken = broken_under(judged, policy, kept)
     for name, word in [(name, word) for name, own in policy.items() for word in own]:
         left = without(policy, name, word)
-        refused = next((one for one in broken_under(judged, left) if one not in broken), None)
+        refused = next((one for one in broken_under(judged, left, kept) if one not in broken), None)
         if refused is None:
             policy = left
         else:
             words.append({"directive": name, "word": word, "entry": refused["entry"], "url": refused["url"]})
-    return {"policy": text_of(policy), "broken": broken, "words": words, "requests": len(list(working(judged))),
+    return {"policy": text_of(policy, kept), "broken": broken, "words": words, "requests": len(list(working(judged))),
             "notes": [*nonce_notes(policy), *inline_notes(judged), UNSEEN]}
 
 
@@ -44,6 +45,22 @@ def policy_of(judged: Judged, by: str) -> Policy:
         for word in words_of(finding, page, by):
             words += [word] if word not in words else []
     return {name: words for name, words in found.items() if words}
+
+
+def kept_of(judged: Judged) -> Policy:
+    """What the pages' own policies say besides, which no load is asked by: `upgrade-insecure-requests`, `base-uri`
+    and the like stay as they are."""
+    found: Policy = {}
+    for page, _ in judged:
+        for policy in enforced_policies(page):
+            for name, words in policy.items():
+                if not name.endswith(("-src", "-elem", "-attr")):
+                    found.setdefault(name, words)
+    return found
+
+
+def enforced_policies(page: Page) -> list[Policy]:
+    return [policy for is_enforced, policy in csp.numbered(policy_headers(page)) if is_enforced]
 
 
 def working(judged: Judged) -> Iterator[tuple[Page, Finding]]:
@@ -58,8 +75,8 @@ def words_of(finding: Finding, page: Page, by: str) -> list[str]:
     nonce = finding.command.options.get("nonce")
     if nonce and finding.command.kind in ("script", "style"):
         return [f"'nonce-{nonce}'"]
-    urls = [finding.chain.url] if scheme_of(finding.chain.url) in LOCAL else \
-        [finding.case.whole(request) for request, _ in finding.case.chain] or [finding.chain.url]
+    is_local = scheme_of(finding.chain.url) in LOCAL
+    urls = [finding.chain.url] if is_local else [finding.case.upgraded(hop) for hop in finding.case.hops]
     return [word_of(url, page, by, number > 0) for number, url in enumerate(urls)]
 
 
@@ -77,8 +94,9 @@ def word_of(url: str, page: Page, by: str, is_redirected: bool) -> str:
     return f"{scheme}://{parts.netloc.rpartition('@')[2]}{path if csp.HOST.fullmatch('a' + path) else ''}"
 
 
-def text_of(policy: Policy) -> str:
-    return "; ".join(["default-src 'none'", *(" ".join([name, *words]) for name, words in policy.items())])
+def text_of(policy: Policy, kept: Policy) -> str:
+    own = [" ".join([name, *words]) for name, words in (*policy.items(), *kept.items())]
+    return "; ".join(["default-src 'none'", *own])
 
 
 def without(policy: Policy, name: str, word: str) -> Policy:
@@ -89,9 +107,9 @@ def without(policy: Policy, name: str, word: str) -> Policy:
 
 # ---- plays
 
-def broken_under(judged: Judged, policy: Policy) -> list[dict[str, Any]]:
+def broken_under(judged: Judged, policy: Policy, kept: Policy) -> list[dict[str, Any]]:
     """What a policy would refuse of what came."""
-    found = differences.of_pages(judged, Changes(csp=text_of(policy)), "")
+    found = differences.of_pages(judged, Changes(csp=text_of(policy, kept)), "")
     return [{"entry": one["entry"], "url": one["url"], "why": one["why"]} for one in found["differences"]
             if one["kind"] == BROKEN]
 
