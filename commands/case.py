@@ -177,7 +177,8 @@ class Case:
 
     def is_followed(self, answer):
         head = answer.head if answer else None
-        is_redirect = head is not None and head.status in REDIRECTS and bool(head.get("Location"))
+        # an empty Location leads to its own URL
+        is_redirect = head is not None and head.status in REDIRECTS and head.get("Location") is not None
         return is_redirect and self.command.options["redirect"] == "follow"
 
     def upgrade_of(self, hop):

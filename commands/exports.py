@@ -1,6 +1,5 @@
 """What bin/ask --export writes: a scenario that plays by scripted servers what real ones answered, without secrets."""
 import json
-import os
 import re
 
 from commands import answers, files
@@ -8,30 +7,20 @@ from commands.ask_words import Wrong
 
 # A header of the document, which says nothing to a play: the mark of a file that may be written over.
 MARK = ["X-Made-By", "bin/ask --export"]
-LARGEST = 268435456
 SET_COOKIE = re.compile(r"(?im)^(set-cookie2?:[ \t]*)([^\r\n]*)")
 SCHEME_WORD = re.compile(r"^[!#$%&'*+\-.^_`|~0-9A-Za-z]+ +")
 
 
 def refuse_path(path):
     """Refuses a file that --export did not write, before anything is asked."""
-    if os.path.islink(path):
-        raise Wrong("--export: %s is a symbolic link: name the file itself" % path)
-    if os.path.lexists(path) and not is_own(path):
-        raise Wrong("--export: %s is there, and --export did not write it: name another file, or remove it" % path)
-    if not os.access(os.path.dirname(path) or ".", os.W_OK):
-        raise Wrong("%s cannot be written" % path)
+    wrong = files.refusal(path, "--export", is_own)
+    if wrong:
+        raise Wrong(wrong)
 
 
-def is_own(path):
-    """Whether it is a file with the mark of --export."""
-    if not os.path.isfile(path) or os.path.getsize(path) > LARGEST:
-        return False
-    try:
-        with open(path, "rb") as file:
-            return MARK in json.loads(file.read().decode("utf-8"))["documents"][0]["headers"]
-    except (OSError, ValueError, LookupError, TypeError, RecursionError):
-        return False
+def is_own(data):
+    """Whether a file's bytes are a scenario with the mark of --export."""
+    return MARK in json.loads(data.decode("utf-8"))["documents"][0]["headers"]
 
 
 class Export:

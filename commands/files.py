@@ -1,6 +1,30 @@
-"""Files that a command writes: whole or not at all, and for their owner alone."""
+"""Files that a command writes: whole or not at all, for their owner alone, and never in the place of another's."""
 import os
 import tempfile
+
+LARGEST = 268435456  # bytes of a file that is looked at
+
+
+def refusal(path, word, is_own):
+    """Why a word of a command may not write there, in a sentence, or None: over a symbolic link, or over a file that it did
+    not make, which `is_own` says of its bytes."""
+    if os.path.islink(path):
+        return "%s: %s is a symbolic link: name the file itself" % (word, path)
+    if os.path.lexists(path) and not is_made(path, is_own):
+        return "%s: %s is there, and %s did not write it: name another file, or remove it" % (word, path, word)
+    if not os.access(os.path.dirname(path) or ".", os.W_OK):
+        return "%s cannot be written" % path
+    return None
+
+
+def is_made(path, is_own):
+    if not os.path.isfile(path) or os.path.getsize(path) > LARGEST:
+        return False
+    try:
+        with open(path, "rb") as file:
+            return is_own(file.read())
+    except (OSError, ValueError, LookupError, TypeError, RecursionError):
+        return False
 
 
 def replace(path, data):

@@ -6,6 +6,14 @@ RESULT = re.compile(r"result (?:(error|failed) (?:(type-error) )?(\d+) (\w+)(?: 
                     r"|(loaded)|(basic|cors|opaque|opaqueredirect) (\d+) (.*))")
 BODY = re.compile(r"  body (?:(none)|(whole) (\d+): (.*)|(cut|fault) (\d+)|(toobig))")
 HEADER = re.compile(r"  ([^:]+): (.*)")
+DOCUMENT = re.compile(r"document (\d+) (.*)")
+HISTORY = re.compile(r"\d+ \d+ .*: (?:yes|no|done)")
+COMMAND = re.compile(r"(?:fetch (\d+)|load (\d+) (\w+))")
+END = re.compile(r"end (.*)")
+CALL = re.compile(r"call (\w+) (.*): (\w+)")
+VIOLATION = re.compile(r"violation (\d+) (enforce|report) (\S+) (.*)")
+REQUEST = re.compile(r"  (\S+) (.*) HTTP/1\.1")
+SENT_BODY = re.compile(r"  body (\d+): (.*)")
 
 
 class NoPlay(Exception):
@@ -126,7 +134,7 @@ class Reader:
 
     def take(self, form):
         """The next line, where it has this form."""
-        found = re.fullmatch(form, self.lines[self.at]) if self.at < len(self.lines) else None
+        found = form.fullmatch(self.lines[self.at]) if self.at < len(self.lines) else None
         self.at += found is not None
         return found
 
@@ -135,13 +143,13 @@ class Reader:
         if self.line() != "fetchplay 1":
             self.refuse()
         while True:
-            found = self.take(r"document (\d+) (.*)")
+            found = self.take(DOCUMENT)
             if found is None:
                 break
             play.documents.append(self.document(Document(int(found.group(1)), found.group(2), self.at)))
         if self.line() != "history":
             self.refuse()
-        while self.take(r"\d+ \d+ .*: (?:yes|no|done)"):
+        while self.take(HISTORY):
             play.history.append(self.lines[self.at - 1])
         if self.line() != "done" or self.at != len(self.lines):
             self.refuse()
@@ -149,12 +157,12 @@ class Reader:
 
     def document(self, document):
         while True:
-            found = self.take(r"(?:fetch (\d+)|load (\d+) (\w+))")
+            found = self.take(COMMAND)
             if found is None:
                 break
             number = int(found.group(1) or found.group(2))
             document.fetches.append(self.fetch(Fetch(document, number, found.group(3), self.at)))
-        found = self.take(r"end (.*)")
+        found = self.take(END)
         if found is None:
             self.at += 1
             self.refuse()
@@ -173,20 +181,20 @@ class Reader:
         if word == "send":
             return self.send(line)
         if word == "call":
-            found = re.fullmatch(r"call (\w+) (.*): (\w+)", line)
+            found = CALL.fullmatch(line)
             return Event("call", self.at, op=found.group(1), words=found.group(2).split(" "), reply=found.group(3))
         if word == "violation":
-            found = re.fullmatch(r"violation (\d+) (enforce|report) (\S+) (.*)", line)
+            found = VIOLATION.fullmatch(line)
             return Event("violation", self.at, policy=int(found.group(1)), enforced=found.group(2) == "enforce",
                          directive=found.group(3), url=found.group(4))
         return self.result(line)
 
     def send(self, line):
         event = Event("send", self.at, origin=line.partition(" ")[2], headers=[], body=None)
-        event.method, target = re.fullmatch(r"  (\S+) (.*) HTTP/1\.1", self.line()).groups()
+        event.method, target = REQUEST.fullmatch(self.line()).groups()
         event.target = plain(target)
         while event.body is None:
-            found = self.take(r"  body (\d+): (.*)")
+            found = self.take(SENT_BODY)
             if found:
                 event.body = unescaped(found.group(2))
                 break

@@ -120,11 +120,11 @@ def target_of(rule):
 
 
 class Scenario:
-    """`root` is its tree, and `data` the same as Python has it."""
+    """`root` is its tree, and `data` the same as Python has it. One that a command makes itself has no tree."""
 
-    def __init__(self, root):
+    def __init__(self, root, data=None):
         self.root = root
-        self.data = root.plain()
+        self.data = root.plain() if data is None else data
         self.rules_by = {}
         self.told_by = {}
 

@@ -1,0 +1,170 @@
+"""The words of bin/har, and what it does by them."""
+from __future__ import annotations
+
+import argparse
+import gc
+import os
+from typing import Any
+
+from commands import play_text, running, streams
+from commands.ask_words import POLICIES, known_host
+from recorded.known_hosts import is_domain
+from recorded.least import BY
+from recorded import changes, differences, har, judging, redacting, telling, writing
+
+GOOD, BAD, WRONG, FAILED = range(4)
+# The words of changes, and whether each has a value.
+CHANGES = {"csp": True, "csp-report-only": True, "no-csp": False, "referrer-policy": True, "hsts": True,
+           "upgrade": False, "set": True, "unset": True, "origin": True}
+
+
+def typed(read: Any, *more: Any) -> Any:
+    """What argparse calls for a word: its ValueError has a sentence that is told."""
+    def of_word(word: str) -> Any:
+        try:
+            return read(word, *more)
+        except ValueError as error:
+            raise argparse.ArgumentTypeError(str(error)) from None
+    return of_word
+
+
+def words_of_file(path: str) -> list[str]:
+    """The words that a file of changes has."""
+    try:
+        with open(path, encoding="utf-8") as file:
+            lines = [line.strip() for line in file]
+    except (OSError, UnicodeDecodeError) as error:
+        raise argparse.ArgumentTypeError(f"{path}: {getattr(error, 'strerror', None) or error}") from None
+    found: list[str] = []
+    for number, line in enumerate(lines, 1):
+        name, _, value = line.partition(" ")
+        if not line or line.startswith("#"):
+            continue
+        if name not in CHANGES:
+            raise argparse.ArgumentTypeError(f"{path}:{number}: {name} is none of {', '.join(CHANGES)}")
+        found += ["--" + name] + ([value.strip()] if CHANGES[name] else [])
+    return found
+
+
+def domain(word: str) -> tuple[str, bool]:
+    host, has_subdomains = known_host(word)
+    if not is_domain(host):
+        raise argparse.ArgumentTypeError("a known host is a domain: no URL, no port, no address, no localhost")
+    return host, has_subdomains
+
+
+def policy(word: str) -> str:
+    if any(sign in word for sign in "\r\n\0"):
+        raise argparse.ArgumentTypeError("a policy stands in one line")
+    return word.strip()
+
+
+def read_words(self: str, words: list[str]) -> argparse.Namespace:
+    """What the words say; wrong words end the program with the status 2."""
+    parser = argparse.ArgumentParser(
+        prog=self, allow_abbrev=False,
+        usage="%(prog)s RECORDING [changes] [--json|--brief] [--scenario DIR]\n       %(prog)s RECORDING --redact OUT",
+        description="says what came of each request of a recording (HAR), why, and what changes would change",
+        epilog="status: 0 nothing failed (with changes: nothing breaks), 1 something did, 2 wrong words or no HAR, "
+               "3 no play")
+    parser.add_argument("recording", metavar="RECORDING", nargs="?",
+                        help="a HAR file, plain or packed by gzip; standard input where it is left out")
+    asked = parser.add_argument_group("what if", "the recording is played with these, and what comes otherwise is told")
+    asked.add_argument("--csp", metavar="TEXT", type=policy,
+                       help="the pages' policy, in the place of those that they have")
+    asked.add_argument("--csp-report-only", metavar="TEXT", type=policy,
+                       help="one that only reports, in the place of such")
+    asked.add_argument("--no-csp", action="store_true", help="no policy")
+    asked.add_argument("--referrer-policy", metavar="P", choices=POLICIES, help="the pages' referrer policy")
+    asked.add_argument("--hsts", metavar="HOST[,subdomains]", action="append", type=domain, default=[],
+                       help="a host that is known to want https")
+    asked.add_argument("--upgrade", action="store_true", help="upgrade-insecure-requests, beside the pages' policies")
+    asked.add_argument("--set", metavar="'URL-PATTERN Name: value'", action="append", default=[],
+                       type=typed(changes.header_change, True),
+                       help="a header of answers, those of the pages too; * stands for any text")
+    asked.add_argument("--unset", metavar="'URL-PATTERN Name'", action="append", default=[],
+                       type=typed(changes.header_change, False),
+                       help="a header that goes")
+    asked.add_argument("--origin", metavar="OLD=NEW", action="append", type=typed(changes.move), default=[],
+                       help="a site that moves to another origin")
+    asked.add_argument("--changes", metavar="FILE", type=words_of_file, default=[],
+                       help="a file of these words, one a line: a name without --, a blank, and its value")
+    least = parser.add_argument_group("the least policy")
+    least.add_argument("--suggest-csp", action="store_true", help="the least policy under which all that came passes")
+    least.add_argument("--by", choices=BY, default="host", help="what its words name: host (as it is), path, or scheme")
+    printed = parser.add_argument_group("what is printed and written")
+    form = printed.add_mutually_exclusive_group()
+    form.add_argument("--brief", action="store_true", help="a line for each verdict alone")
+    form.add_argument("--json", action="store_true", help="JSON")
+    printed.add_argument("--scenario", metavar="DIR", help="write a scenario for each page, for bin/why")
+    printed.add_argument("--redact", metavar="OUT",
+                         help="write the recording without cookies, Authorization and bodies, and play nothing")
+    given = parser.parse_args(words)
+    if given.changes:
+        given = parser.parse_args([*given.changes, *words])
+    if given.no_csp and (given.csp is not None or given.csp_report_only is not None):
+        parser.error("--no-csp stands without --csp and --csp-report-only")
+    if given.suggest_csp and (given.redact or given.scenario or changes_of(given)):
+        parser.error("--suggest-csp stands without changes, --redact and --scenario")
+    if given.redact and given.scenario:
+        parser.error("--redact stands without --scenario")
+    return given
+
+
+def changes_of(given: argparse.Namespace) -> changes.Changes:
+    return changes.Changes(given.csp, given.csp_report_only, given.no_csp, given.referrer_policy, tuple(given.hsts),
+                           given.upgrade, (*given.set, *given.unset), tuple(given.origin))
+
+
+def main(self: str, words: list[str]) -> int:
+    given = read_words(self, words)
+    gc.disable()  # nearly all that is made stays to the end, and looking through it again and again doubles the time
+    name = given.recording or "standard input"
+    if given.recording and os.path.isdir(given.recording):
+        return streams.complain(WRONG, f"{self}: {name} is a folder: name a HAR file in it")
+    try:
+        data = streams.read(given.recording)
+        return redact(self, data, given) if given.redact else told(self, har.read(data), given)
+    except OSError as error:
+        return streams.complain(WRONG, f"{self}: {name}: {error.strerror}")
+    except har.NoHar as error:
+        return streams.complain(WRONG, f"{self}: {name}:{error.line}:{error.column}: {error.sentence}")
+    except (running.Failed, play_text.NoPlay) as error:
+        return streams.complain(FAILED, f"{self}: {error}")
+
+
+def redact(self: str, data: bytes, given: argparse.Namespace) -> int:
+    log = har.log_of(data)
+    wrong = redacting.write(given.redact, log)
+    if wrong:
+        return streams.complain(WRONG, f"{self}: {wrong}")
+    streams.write_lines([f"{given.redact} is the recording without cookies, Authorization and bodies",
+                         *(f"note: {note}" for note in redacting.notes(log))])
+    return GOOD
+
+
+def suggested(recording: Any, given: argparse.Namespace) -> int:
+    found = judging.suggest(recording, given.by)
+    if given.json:
+        streams.write_json(found)
+    else:
+        streams.write_lines(telling.suggested_lines(found["suggested"], given.brief))
+    return BAD if found["suggested"]["broken"] else GOOD
+
+
+def told(self: str, recording: Any, given: argparse.Namespace) -> int:
+    made, written = changes_of(given), []
+    if given.scenario:
+        written, wrong = writing.write(given.scenario, recording, made)
+        if wrong:
+            return streams.complain(WRONG, f"{self}: {wrong}")
+    if given.suggest_csp:
+        return suggested(recording, given)
+    found = judging.judge(recording, made)
+    if given.json:
+        streams.write_json(found)
+    else:
+        streams.write_lines(telling.lines(found, given.brief))
+        streams.write_lines(f"wrote {path}" for path in written)
+    is_bad = differences.breaks(found) if made else judging.fails(found)
+    return BAD if is_bad else GOOD

@@ -1,0 +1,136 @@
+"""Reads one entry of a HAR, with the `_` fields of Chromium's tools, Playwright and WebPageTest where they are
+there."""
+from __future__ import annotations
+
+import datetime
+import functools
+import re
+from typing import Any, Optional
+
+from commands.scenario import origin_of
+from commands.urls import scheme_of
+from recorded import fields
+from recorded.fields import Bad
+from recorded.model import Entry
+
+SCHEME = re.compile(r"[A-Za-z][A-Za-z0-9+.-]*:")
+TOKEN = re.compile(r"[!#$%&'*+\-.^_`|~0-9A-Za-z]+")
+BREAKS = re.compile(r"[\r\n\x00]+")
+MOST_STATUS = 999
+
+
+def read(data: Any, number: int) -> Entry:
+    """The entry of this number; raises Bad where it is none."""
+    place = f"entries[{number}]"
+    fields.want(data, dict, place)
+    request = fields.want(data.get("request"), dict, place + ".request")
+    response = fields.object_of(data, "response", place)
+    method = fields.text_of(request, "method", place + ".request")
+    if not is_token(method):
+        raise Bad(f"{place}.request.method is no method: {method[:40]!r}")
+    url = fields.text_of(request, "url", place + ".request").strip()
+    origin = origin_of(url)
+    if not SCHEME.match(url) or origin is None and is_without_host(url):
+        raise Bad(f"{place}.request.url is no whole URL: {url[:80]!r}")
+    sent = headers_of(request, place + ".request")
+    cookies = fields.list_of(request, "cookies", place + ".request")
+    return Entry(
+        number=number, page=page_of(data, place), started=time_of(data.get("startedDateTime")), method=method, url=url,
+        origin=origin, sent=sent, status=status_of(response, place + ".response"),
+        got=headers_of(response, place + ".response"),
+        content=fields.object_of(response, "content", place + ".response"), error=error_of(data, request, response),
+        resource_type=fields.any_text(data, "_resourceType", "_request_type", "_resource_type").lower(),
+        initiator=initiator_of(data), redirect=fields.any_text(response, "redirectURL"),
+        has_cookies=bool(cookies) or any(name.lower() == "cookie" for name, _ in sent),
+        is_from_worker=response.get("_fetchedViaServiceWorker") is True)
+
+
+def is_without_host(url: str) -> bool:
+    """Whether a URL of a scheme that has hosts has none that can be read."""
+    scheme = scheme_of(url)
+    return scheme in ("http", "https") or scheme in ("ws", "wss") and origin_of("http" + url[2:]) is None
+
+
+def page_of(data: dict, place: str) -> Optional[str]:
+    page = data.get("pageref")
+    return None if page is None else fields.clean(fields.want(page, str, place + ".pageref"))
+
+
+def headers_of(data: dict, place: str) -> list[tuple[str, str]]:
+    """The headers, a pair for each line: some tools join equal ones by line ends, or by zero bytes. Pseudo headers of
+    HTTP/2, as `:path`, are no headers."""
+    found: list[tuple[str, str]] = []
+    for index, one in enumerate(fields.list_of(data, "headers", place)):
+        name, value = pair_of(one) or wanted_pair(one, f"{place}.headers[{index}]")
+        if not is_token(name):
+            continue
+        if value.isprintable():  # as nearly all are
+            found.append((name, value.strip(" ")))
+        else:
+            found += [(name, line.strip("\t ")) for line in BREAKS.split(fields.clean(value))]
+    return found
+
+
+def pair_of(data: Any) -> Optional[tuple[str, str]]:
+    """The name and the value; None of what has not the form."""
+    if isinstance(data, dict):
+        name, value = data.get("name"), data.get("value")
+        if isinstance(name, str) and isinstance(value, str):
+            return name, value
+    return None
+
+
+def wanted_pair(data: Any, place: str) -> tuple[str, str]:
+    """The same, which says what is wrong."""
+    fields.want(data, dict, place)
+    return fields.text_of(data, "name", place), fields.text_of(data, "value", place)
+
+
+@functools.lru_cache(4096)
+def is_token(name: str) -> bool:
+    return TOKEN.fullmatch(name) is not None
+
+
+def status_of(response: dict, place: str) -> int:
+    """The status of the answer; 0 where none came, which some tools write as -1."""
+    status = fields.number_of(response, "status", place)
+    if status > MOST_STATUS or 0 < status < 100:
+        raise Bad(f"{place}.status is {status}, which is no status")
+    return max(status, 0)
+
+
+def error_of(data: dict, request: dict, response: dict) -> str:
+    return (fields.any_text(response, "_error", "_failureText") or fields.any_text(data, "_error", "_failureText")
+            or fields.any_text(request, "_failureText"))
+
+
+def initiator_of(data: dict) -> str:
+    """The URL of what asked: that of a script's call, or what WebPageTest writes."""
+    told = data.get("_initiator")
+    if isinstance(told, str):
+        return fields.clean(told)
+    if not isinstance(told, dict):
+        return ""
+    stack = told.get("stack")
+    while isinstance(stack, dict):
+        frames = stack.get("callFrames")
+        for frame in frames if isinstance(frames, list) else []:
+            if isinstance(frame, dict) and fields.any_text(frame, "url"):
+                return fields.any_text(frame, "url")
+        stack = stack.get("parent")
+    return fields.any_text(told, "url")
+
+
+def time_of(text: Any) -> Optional[float]:
+    """Seconds of a time in the form of ISO 8601; None of another value."""
+    if not isinstance(text, str):
+        return None
+    found = re.fullmatch(r"(\d{4}-\d\d-\d\d)[T ](\d\d:\d\d:\d\d)(\.\d+)?(Z|[+-]\d\d:?\d\d)?", text.strip())
+    if not found:
+        return None
+    day, time, fraction, zone = found.groups()
+    zone = "+00:00" if zone in (None, "Z") else zone if ":" in zone else zone[:3] + ":" + zone[3:]
+    try:
+        return datetime.datetime.fromisoformat(f"{day}T{time}{zone}").timestamp() + float(fraction or 0)
+    except (ValueError, OverflowError):
+        return None
