@@ -117,9 +117,9 @@ fn run_document<F: Fetcher, S: Share, L: Link>(
     ))
 }
 
-/// Plays a document's script with what plays its fetches, over a link and a share of the book, from a time in seconds on,
-/// which is at most 2^40. The document is that of the scenario with this number. It makes 129,024 calls of the book at most, which the pass has
-/// left.
+/// Plays a document's script with what plays its fetches, over a link and a share of the book, from a time in seconds
+/// on, which is at most 2^40. The document is that of the scenario with this number. It makes 129,024 calls of the book
+/// at most, which the pass has left.
 ///
 /// What the transcript shows is the document's run over a tape of what the world answers, as with `drive_fetch`. At
 /// another ending than `Memory` nothing is to come over the link, where it tells it. At `Memory` what was shown begins

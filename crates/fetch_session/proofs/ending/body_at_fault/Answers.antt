@@ -7,6 +7,6 @@ pub returns-in-More : goal.returns-in-More
 returns-in-More c = fails_open c.args.reader c.in-More.reader c.finish.result c.count_of.result
     (subst (IsFed c.args.reader []) c.in-More.is c.feed.ensures) c.finish.ensures c.count_of.ensures
 
-pub returns-in-Over : goal.returns-in-Over
-returns-in-Over c = rw (c.in_ok-fitted.ensures) (fails_decided c.args.reader c.in-Over.end
+pub returns-in_ok-fitted-in-Over : goal.returns-in_ok-fitted-in-Over
+returns-in_ok-fitted-in-Over c = rw (c.in_ok-fitted.ensures) (fails_decided c.args.reader c.in-Over.end
     (subst (IsFed c.args.reader []) c.in-Over.is c.feed.ensures))

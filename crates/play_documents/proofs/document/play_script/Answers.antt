@@ -6,7 +6,7 @@ use Rattle.play_documents.proofs.RunLemmas.{run-came, run-rests}
 use Rattle.play_documents.proofs.document.play_script.Goals as goal
 
 pub script-requires-clause-goes : goal.script-requires-clause-goes
-script-requires-clause-goes g c κs within = record {
+script-requires-clause-goes g c = record {
   calls = omega (arith, c.requires.pass.1, ap (λ (p : Progress). p.fetches) c.new-running.ensures);
   fetches = omega (arith, ap (λ (p : Progress). p.fetches) c.new-running.ensures);
   rests = end-left (window_of c.args.wire.now) (g.L.Link.told c.args.link.now).left c.requires.idle.end;

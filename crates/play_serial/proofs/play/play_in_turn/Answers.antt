@@ -1,4 +1,4 @@
-use Rattle.std.proofs.Common.{List, ap, ◌∙◌}
+use Rattle.std.proofs.Common.{List, ap, rules, ◌∙◌}
 use Rattle.book_calls.specs.Book.{empty}
 use Rattle.play_definitions.specs.Plays.{with_hosts}
 use Rattle.play_serial.proofs.SoFarLemmas.{all-came, none-came}
