@@ -8,5 +8,5 @@ returns-in-More c = fails_open c.args.reader c.in-More.reader c.finish.result c.
     (subst (IsFed c.args.reader []) c.in-More.is c.feed.ensures) c.finish.ensures c.count_of.ensures
 
 pub returns-in_ok-fitted-in-Over : goal.returns-in_ok-fitted-in-Over
-returns-in_ok-fitted-in-Over c = rw (c.in_ok-fitted.ensures) (fails_decided c.args.reader c.in-Over.end
+returns-in_ok-fitted-in-Over c = rw (c.in_ok-fitted-in-Over.ensures) (fails_decided c.args.reader c.in-Over.end
     (subst (IsFed c.args.reader []) c.in-Over.is c.feed.ensures))

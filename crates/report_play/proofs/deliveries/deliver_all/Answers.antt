@@ -16,7 +16,7 @@ loop-link-init g c =
     }
 
 pub deliver_over-requires-clause-report : goal.deliver_over-requires-clause-report
-deliver_over-requires-clause-report g c κs within =
+deliver_over-requires-clause-report g c =
     all-at (CanReport c.args.scenario.now) c.args.transcripts.now c.loop-link.number c.at-transcript.result.now
     c.requires.report c.at-transcript.ensures
 

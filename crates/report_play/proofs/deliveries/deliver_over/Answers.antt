@@ -15,8 +15,8 @@ returns g c =
     let scenario = c.args.scenario.now in
     let transcript = c.args.transcript.now in
     let delivered = c.in_ok-delivered.delivered in
-    let begun = c.resumed-pass.ensures.pass in
-    let first = c.resumed-pass.result.1 in
+    let begun = c.resumed-share.ensures.pass in
+    let first = c.resumed-share.result.1 in
     let last = c.deliver.new.pass in
     let kept = c.in_ok-delivered.ensures.pass in
     let of : last.document ≡ transcript.document = kept.document ∙ ap (λ (p : Solo). p.document) begun in
@@ -24,7 +24,7 @@ returns g c =
       number_is = c.in_ok-delivered.ensures.number;
       entries = last.entries;
       whole_is = c.close-book.ensures.grown
-          ∙ ap (λ (l : List Entry). l ++ last.entries) (kept.belongs_to ∙ c.resumed-pass.ensures.share);
+          ∙ ap (λ (l : List Entry). l ++ last.entries) (kept.belongs_to ∙ c.resumed-share.ensures.share);
       last_is = c.close-book.ensures.book
           ∙ ap (λ (b : Book). book_after b last.entries) (kept.opening ∙ ap (λ (p : Solo). p.opening) begun);
       legal = subst (λ (b : Book). Legal b last.entries) (kept.opening ∙ ap (λ (p : Solo). p.opening) begun)
