@@ -67,6 +67,10 @@ class Answer:
         self.problem, self.head = parsed(data)
         self.known_body = None
 
+    @property
+    def is_scripted(self):
+        return self.link is None
+
     def body(self):
         """The body's bytes, as far as they came, by its framing."""
         if self.known_body is None:

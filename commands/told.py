@@ -51,13 +51,23 @@ def shown(data):
 
 
 def answer_lines(answer):
-    """The head as it came, and how long the body is."""
+    """The head as it came, and how long the body is: of a scripted server, since how much of a real one's came before the
+    connection was closed depends on time."""
     if answer is None:
         return []
     if answer.head is None:
-        return [shown(answer.data)] if answer.data else ["(nothing came)"]
-    lines = answer.data[:answer.head.end].strip(b"\r\n").splitlines()
-    return [shown(line) for line in lines] + ["(%d bytes follow)" % (len(answer.data) - answer.head.end)]
+        return [headless_line(answer)]
+    lines = [shown(line) for line in answer.data[:answer.head.end].strip(b"\r\n").splitlines()]
+    return lines + ([f"({len(answer.data) - answer.head.end} bytes follow)"] if answer.is_scripted else [])
+
+
+def headless_line(answer):
+    """What came in the place of a head."""
+    if not answer.data:
+        return "(nothing came)"
+    if answer.is_scripted:
+        return shown(answer.data)
+    return shown(answer.data[:LONGEST]) + (" ..." if len(answer.data) > LONGEST else "")
 
 
 def case_data(case):
