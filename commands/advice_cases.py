@@ -199,6 +199,8 @@ OTHERS = {
         script(), [rule(200, [["Content-Type", "text/csv"], ["X-Content-Type-Options", "nosniff"]])]),
     "a length of two": answered(OK, ["Content-Length", "3, 4"], body="abc"),
     "a known host by its whole URL": scenario(fetch("http://shop.test/x", mode="same-origin"), **KNOWN),
+    "mixed content of a host that was known": scenario(
+        [{"wait": 20}, fetch("http://api.test/x")], hsts=[{"host": "api.test", "subdomains": False, "until": 10}]),
     "a user name in the URL": scenario(fetch("https://u:p@api.test/x"), [asked(404), rule()]),
 }
 

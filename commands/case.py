@@ -607,11 +607,11 @@ class Case:
 
     @property
     def too_late(self):
-        """What is to be said of a known host whose URL was mixed content."""
+        """What is to be said of a host that the scenario has as a known one, whether it still is or not."""
         host = host_of(self.url)
-        is_known = any(host == one["host"] or (one["subdomains"] and host.endswith("." + one["host"]))
+        is_named = any(host == one["host"] or (one["subdomains"] and host.endswith("." + one["host"]))
                        for one in self.scenario.data.get("hsts", []))
-        return "; that the host is a known one (HSTS) comes too late for this" if is_known else ""
+        return "; HSTS does not help, since known hosts are looked up after mixed content" if is_named else ""
 
     @property
     def or_plain(self):
