@@ -181,8 +181,7 @@ class Answered:
         """What is to be said of a body that came coded, though the request said identity."""
         stream = exchange.stream
         if stream.is_opened:
-            yield "%s: the body came as %s all the same: it was decoded, as a browser does it; so Transfer-Encoding stands " \
-                "among the headers that are read here, in the place of Content-Encoding%s" % (
+            yield "%s: the body came as %s all the same: it was decoded, as a browser does it%s" % (
                 exchange.origin, ", ".join(stream.codings), "; " + stream.fault if stream.fault else "")
         if stream.lacks and any(case.result.number == verdicts.CODING for case in self.told.cases):
             packages = list(filter(None, map(PACKAGES.get, stream.lacks)))
