@@ -10,6 +10,8 @@ from commands.scenario import joined, origin_of
 
 OWN = "a browser sends its own"
 CACHE = "a browser's cache adds it"
+ELEMENT = "an element sets no header"
+NO_CORS = "in mode no-cors a script sets %s alone" % ", ".join(guards.NO_CORS)
 # What is said otherwise here of a header that no script may set: guards.py has the others.
 HERE = {
     "accept-encoding": "a browser names the codings that it decodes; here the request says identity",
@@ -35,7 +37,7 @@ class Said:
 
     def __init__(self, given, url):
         self.given = given
-        self.notes = []
+        self.notes, self.left_out = [], []
         self.url, self.body = url, given.body
         if given.get and self.body is not None:
             self.url, self.body = with_query(url, self.body), None
@@ -50,6 +52,7 @@ class Said:
         self.take_cookies()
         if given.insecure:
             self.note("-k changes nothing: a page cannot ask a server whose certificate is not trusted")
+        self.note_left_out()
 
     def note(self, sentence):
         if sentence not in self.notes:
@@ -98,13 +101,17 @@ class Said:
         if word == "cookie":
             return False
         if word in ABOUT_PAGE:
-            if self.given.page:
-                self.note("`%s` is left out: --from names the page" % name)
+            self.left_out += [(name, "--from names the page")] if self.given.page else []
             return False
         reason = self.reason_against(word, value)
-        if reason:
-            self.note("`%s` is left out: %s" % (name, reason))
+        self.left_out += [(name, reason)] if reason else []
         return reason is None
+
+    def note_left_out(self):
+        """All headers that are left out, in one note: first those that a script may have set."""
+        if self.left_out:
+            mine = [pair for pair in self.left_out if pair[1] in (ELEMENT, NO_CORS)]
+            self.note("left out: " + guards.told(mine + [pair for pair in self.left_out if pair not in mine]))
 
     def reason_against(self, word, value):
         if word in ADDED:
@@ -114,9 +121,9 @@ class Said:
         if is_forbidden(word, value):
             return HERE.get(word) or guards.in_place(word, value) or OWN
         if self.load and self.given.load is None:
-            return "an element sets no header"
+            return ELEMENT
         if self.mode == "no-cors" and word not in guards.NO_CORS:
-            return "in mode no-cors a script sets %s alone" % ", ".join(guards.NO_CORS)
+            return NO_CORS
         return None
 
     # ---- cookies
