@@ -40,8 +40,8 @@ UNMADE = {
 def step_of(case):
     """The name of the step at which it ends."""
     result, number = case.result, str(case.result.number)
-    if case.verdict == "none" and result.number == 1:
-        return ENDS[-2] if any(one.enforced for one in case.violations) else ENDS[-1]
+    if case.is_unloaded and not case.is_mixed_socket:
+        return ENDS[-1] if case.is_open else ENDS[-2]
     if result.is_fault:
         return "f" + number
     if result.is_refused():

@@ -5,7 +5,7 @@ play."""
 import os
 import sys
 
-from commands import doubts, findings, json_text, lints, play_text, running, streams, summaries, told
+from commands import doubts, findings, json_text, lints, play_text, running, streams, told, verdicts
 from commands.scenario import Scenario
 
 SCHEMA = os.path.join(running.ROOT, "schema", "scenario.schema.json")
@@ -94,7 +94,7 @@ class Said:
 
     def data(self):
         """As JSON has it; schema/why.schema.json says how."""
-        lines = summaries.brief(self.told)
+        lines = verdicts.brief(self.told)
         return {
             "warnings": [dict(zip(("line", "column", "sentence"), warning)) for warning in self.warnings]
             + [dict(zip(("url", "header", "sentence"), warning)) for warning in self.answer_warnings],
@@ -103,7 +103,7 @@ class Said:
 
     def write(self, name):
         """The verdicts, the warnings, and the play with what is said between its lines."""
-        streams.write_lines("# " + line for line in summaries.heading(self.told))
+        streams.write_lines("# " + line for line in verdicts.heading(self.told))
         streams.write_lines("# warning: %s:%d:%d: %s" % (name, *warning) for warning in self.warnings)
         streams.write_lines("# warning: %s: %s: %s" % warning for warning in self.answer_warnings)
         for line, own in self.told.pieces():
@@ -122,7 +122,7 @@ def why(self, name, data, given):
     if given.json:
         streams.write_json(found.data())
     elif given.brief:
-        streams.write_lines(summaries.brief(found.told))
+        streams.write_lines(verdicts.brief(found.told))
     else:
         found.write(name)
     return 0

@@ -478,11 +478,17 @@ class Case:
         return "let each policy pass it, as follows" if self.violations else "nothing is to be changed"
 
     @property
+    def is_open(self):
+        """Whether a browser goes on where this engine ends, and no policy refuses it."""
+        is_coded = self.result.number == 23 and not self.result.is_fault
+        return is_coded or (self.is_unloaded and not self.is_mixed_socket
+                            and not any(one.enforced for one in self.violations))
+
+    @property
     def verdict(self):
         """In a word: read, refused, hidden (the script sees nothing of the answer), or none."""
         if self.result.is_refused():
-            is_coded = self.result.number == 23 and not self.result.is_fault
-            return "none" if is_coded or (self.is_unloaded and not self.is_mixed_socket) else "refused"
+            return "none" if self.is_open else "refused"
         return "hidden" if self.result.type in ("opaque", "opaqueredirect") else "read"
 
     # ---- the end of a fetch

@@ -312,8 +312,8 @@ ANSWERS = [
         "the body that came is not the one of the integrity text", "",
         "make the digest anew of the bytes as they are sent: {change}", BODY, changes.integrity),
     Way("no-verdict/coded", "23", always,
-        "no verdict on the body: it is coded, and this engine decodes none (requests say `Accept-Encoding: identity`); a "
-        "browser would, and CORS, policies and types let it", "Content-Encoding",
+        "no verdict: the body is coded, and this engine decodes none (requests say `Accept-Encoding: identity`); a browser "
+        "would, and CORS, policies and types let it", "Content-Encoding",
         "for a verdict here send the body uncoded, and {change}; a browser needs no change", BODY,
         changes.uncoded),
 ]
@@ -474,6 +474,8 @@ class Explanation:
         is_asked = key_of(c.result) in PREFLIGHTED and c.about is None and way not in DIRECT and c.origin != "null"
         self.way = way.name
         self.condition = condition.format(c=c)
+        if c.verdict == "refused":  # by a policy, whatever this engine loads
+            self.condition = self.condition.replace("no verdict: ", "", 1)
         told = edits.sentence([shown(one) for one in found] if is_asked else found)
         change = change if told else change.replace("{change}; or ", "")
         self.change = change.format(c=c, change=told or NOTHING)

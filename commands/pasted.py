@@ -33,11 +33,13 @@ ABOUT_PAGE = ("origin", "referer")
 
 class Said:
     """The request of a page: `url`, `method`, `headers`, `body`, `mode`, `credentials`, `load`, `crossorigin`; its
-    `page` (None where nothing says it) and its `cookies`; `notes` say what became of the rest."""
+    `page` (None where nothing says it) and its `cookies`; `notes` say what became of the rest, and `was_navigation` that
+    what was copied opened a page, which is asked as a fetch."""
 
     def __init__(self, given, url):
         self.given = given
         self.notes, self.left_out = [], []
+        self.was_navigation = False
         self.url, self.body = url, given.body
         if given.get and self.body is not None:
             self.url, self.body = with_query(url, self.body), None
@@ -81,7 +83,7 @@ class Said:
         if self.load or self.mode or mode is None:
             return
         if mode == "navigate":
-            self.note("the copied request opened a page, which is not played: it is asked as a script's fetch")
+            self.was_navigation = True
         elif kind in KINDS and self.body is None and self.method in (None, "GET"):
             self.load = kind
             with_cookies = self.given.pasted or "cookie" in self.values

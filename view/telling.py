@@ -1,6 +1,6 @@
 """The text of a play with what bin/why says between its lines: the answers, why each fetch came to what it came, and
 what to change. Where nothing can be said the play stays as it is, with a line that says so."""
-from commands import asking, doubts, play_text, summaries, told
+from commands import asking, doubts, play_text, told, verdicts
 from commands.scenario import Scenario
 
 LONGEST = 262144  # bytes of a scenario or of a play: of a longer one nothing is said
@@ -25,7 +25,7 @@ def lines(data, text):
     source, root = asking.read(data)
     scenario = Scenario(root)
     all_told = told.scripted(scenario, play_text.read(text))
-    for line in summaries.heading(all_told):
+    for line in verdicts.heading(all_told):
         yield "# " + " ".join(line.splitlines())
     for place, sentence in doubts.doubts(scenario, all_told.play, False):
         yield "# warning: line %d of the scenario: %s" % (source.count("\n", 0, place) + 1, sentence)
