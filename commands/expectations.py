@@ -4,7 +4,7 @@ import os
 import re
 
 from commands import (asking, findings, json_text, lints, play_text, policy_questions, refusals, results, running,
-                      streams)
+                      streams, verdicts)
 from commands.asking import Wrong
 from commands.explanations import TABLE
 from commands.schema import Schema
@@ -12,6 +12,7 @@ from commands.schema import Schema
 SCHEMA = os.path.join(running.ROOT, "schema", "expect.schema.json")
 WAYS = [way.name for way in TABLE]
 OTHERS = ("sent", "never sent", *policy_questions.KEYS)  # the keys of `expect` that name no fetch
+MOST_UNNAMED = 20  # lines
 KEY = re.compile(r"(?:document ([0-9]{1,3}) )?(fetch|load) ([0-9]{1,4})")
 DIRECTIVES = ["connect-src", "img-src", "media-src", "font-src", "manifest-src", "style-src-elem", "script-src-elem"]
 # As a play prints it behind the word violation, as far as a test says it.
@@ -158,6 +159,7 @@ def outcome_of(test, is_net, patience, is_strict):
     except (running.Failed, play_text.NoPlay) as failure:
         return Outcome(test.name, [str(failure)])
     warned = list(warnings(text, scenario, told, test.scenario_name, is_net))
+    warned += [(line, True) for line in unnamed(test.expect, told)] if is_strict else []
     faults = [line for line, is_fault in warned if is_fault and is_strict]
     return Outcome(test.name, lines + faults, [line for line, _ in warned])
 
@@ -169,6 +171,24 @@ def warnings(text, scenario, told, name, is_net):
         yield "warning: %s:%d:%d: %s" % (name, *places.of(place), finding.sentence), not finding.lint.is_note
     for one in lints.of_answers(told) if is_net else []:
         yield "warning: %s: %s: %s" % one, True
+
+
+def fetch_of(key):
+    """The number of the document and the name of the fetch or load that a key names; None of one of OTHERS."""
+    found = KEY.fullmatch(key)
+    return (int(found.group(1) or 0), "%s %d" % (found.group(2), int(found.group(3)))) if found else None
+
+
+def unnamed(expect, told):
+    """A line for each fetch and load that no key of a test names, up to MOST_UNNAMED: nothing was compared there."""
+    named = set(map(fetch_of, expect))
+    left = [case for case in told.cases if (case.fetch.document.number, case.fetch.name) not in named]
+    are_many = len(told.play.documents) > 1
+    for case in left[:MOST_UNNAMED]:
+        yield f'warning: {verdicts.named(case, are_many)}: the test does not name it: ' \
+              f'add "{verdicts.name_of(case, are_many)}": "{case.result.short()}", if that is meant'
+    if len(left) > MOST_UNNAMED:
+        yield f"warning: {len(left) - MOST_UNNAMED} more fetches and loads are not named: add them"
 
 
 def differences(expect, told):
@@ -215,8 +235,7 @@ def unwanted(told, wanted):
 # ---- one fetch
 
 def of_fetch(key, wanted, cases):
-    document, kind, number = KEY.fullmatch(key).groups()
-    case = cases.get((int(document or 0), "%s %d" % (kind, int(number))))
+    case = cases.get(fetch_of(key))
     if case is None:
         has = ", ".join(name for _, name in list(cases)[:20]) or "none"
         yield "%s: there is none; the play has %s" % (key, has)

@@ -52,10 +52,18 @@ def lines(cases, is_one_of_many):
 
 
 def line_of(case, is_one_of_many):
-    document = "document %d " % case.fetch.document.number if is_one_of_many else ""
+    return "%s: %s" % (named(case, is_one_of_many), "; ".join([outcome(case), *upgraded(case), *reported(case)]))
+
+
+def named(case, is_one_of_many):
+    """Its name, and what it asks for."""
     kind = " (%s)" % case.fetch.load if case.fetch.load else ""
-    asks = "%s%s%s, %s %s" % (document, case.fetch.name, kind, method_of(case), shown(url_of(case)))
-    return "%s: %s" % (asks, "; ".join([outcome(case), *upgraded(case), *reported(case)]))
+    return "%s%s, %s %s" % (name_of(case, is_one_of_many), kind, method_of(case), shown(url_of(case)))
+
+
+def name_of(case, is_one_of_many):
+    """As a test names it."""
+    return ("document %d " % case.fetch.document.number if is_one_of_many else "") + case.fetch.name
 
 
 def method_of(case):
