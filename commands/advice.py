@@ -28,7 +28,7 @@ UNMADE = {
                     "where the redirect was to lead is not known"),
     **dict.fromkeys(["no-verdict/data", "no-verdict/blob", "no-verdict/websocket"],
                     "this engine does not load it; what a policy is to say stands with the policy"),
-    "redirect/loop": "where the chain was to end is not known",
+    **dict.fromkeys(["redirect/loop", "redirect/cycle"], "where the chain was to end is not known"),
     **dict.fromkeys(["request/long-url", "request/url-bytes", "request/no-url", "request/long-body",
                      "request/long-headers"],
                     "what the page wants to send is its own matter"),

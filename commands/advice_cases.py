@@ -125,6 +125,12 @@ CHAINS = {
         script(url=API + "/1", integrity=SCRIPT), [led(CDN + "/2")], **at(CDN, rule(200, body="abc"))),
     "a redirect of a same-origin fetch": scenario(
         fetch("/go", mode="same-origin"), [led(API + "/x")], PAGE, **at(API, rule())),
+    "two that lead to each other": scenario(fetch(), [led(CDN + "/y")], **at(CDN, led(API + "/x"))),
+    "a POST that leads to itself as a GET": scenario(
+        fetch(method="POST", body="a"), [led("/x", 303, method="POST"), rule()]),
+    "preflights that lead to each other": scenario(
+        fetch(**PUT), [led(CDN + "/x", method="OPTIONS"), rule()], **at(CDN, led(API + "/x", method="OPTIONS"), rule())),
+    "a slash that is put there and taken away": scenario(fetch(**PUT), [led("/x/", path="/x"), led("/x", path="/x/")]),
     "an error mode without a Location": answered(OK, status=302, redirect="error"),
     "an opaque redirect to another origin": scenario(
         fetch("/go", redirect="manual"), [led(API + "/x")], PAGE, **at(API, rule())),

@@ -19,6 +19,7 @@ ALGORITHMS = ("sha256", "sha384", "sha512")
 LIKE_CORS = re.compile(r"ac+es+-cont?rol-", re.I)  # a header of CORS, written right or wrong
 CHUNK_LINE = re.compile(rb"([0-9a-fA-F]{1,16})[^\r\n]*\r\n")
 REDIRECTS = (301, 302, 303, 307, 308)
+MOST_REDIRECTS = 20
 # Schemes that a browser loads by itself, and this engine does not.
 LOCAL = ("data", "blob")
 SOCKETS = ("ws", "wss")
@@ -604,12 +605,43 @@ class Case:
     @property
     def is_next_unanswered(self):
         """Whether the scenario has no rule for the request at the URL to which it is redirected."""
-        server = self.scenario.server_of(origin_of(self.next_url))
+        request = self.redirected(self.request, self.status, self.next_url)
+        server = self.scenario.server_of(request.origin)
         if self.is_net or server is None:
             return not self.is_net
-        request, parts = copy.copy(self.request), urlsplit(self.next_url)
-        request.target = (parts.path or "/") + ("?" + parts.query if parts.query else "")
         return self.scenario.rule_of(server, request) is None
+
+    @cached_property
+    def comes_back(self):
+        """The URL to which the redirect of the last answer leads back: of the chain, or of this preflight. It is followed as
+        the scenario's servers answer; of real ones the next URL alone is known. An empty text where it does not."""
+        been = self.exchanges[-1:] if is_preflight(self.request) else self.chain
+        been = {(request.method, self.whole(request)) for request, _ in been}
+        request, head = self.request, self.head
+        for _ in range(MOST_REDIRECTS):
+            location = (head.get("Location") if head and head.status in REDIRECTS else None) or ""
+            url = joined(location, self.whole(request)) if location else ""
+            if not origin_of(url):
+                return ""
+            request = self.redirected(request, head.status, url)
+            if (request.method, self.whole(request)) in been:
+                return self.whole(request)
+            head = None if self.is_net else answers.scripted(self.scenario, request).head
+        return ""
+
+    @property
+    def has_no_end(self):
+        """Whether its chain has none. That of real servers may have one by the cookies that they set."""
+        return self.is_followed(self.answer) and self.comes_back != "" and not (self.is_net and self.includes)
+
+    @staticmethod
+    def redirected(request, status, url):
+        """The request of a redirect with this status to this URL, as far as rules look at it."""
+        request, parts = copy.copy(request), urlsplit(url)
+        request.origin, request.target = origin_of(url), (parts.path or "/") + ("?" + parts.query if parts.query else "")
+        if status == 303 and request.method != "HEAD" or status in (301, 302) and request.method == "POST":
+            request.method = "GET"
+        return request
 
     @property
     def too_late(self):

@@ -109,7 +109,7 @@ def origin_null(c):
     needs = Needs(c.asked_url, c.page_origin, c.includes, c.method, names, c.preflight_head, own, c.has_listener)
     itself = ask_for(c.asked_url, c) + ([] if origin_of(c.asked_url) == c.page_origin else needs.all_edits())
     star = [{**edit, "value": "*"} if edit["value"] == "null" else edit for edit in cors(c)[0]]
-    is_loop = c.asked_url in [hop.sent for hop in c.hops[:-1]]
+    is_loop = c.asked_url in [hop.sent for hop in c.hops[:-1]] or c.comes_back
     return ([] if is_loop else [itself]) + ([] if c.includes else [star])
 
 
@@ -164,10 +164,10 @@ def follow_or_cors(c):
 
 
 def next_url(c):
-    """The page asks for the URL to which the answer redirects, where that is another one."""
+    """The page asks for the URL to which the answer redirects, where that is another one and does not lead back."""
     url = without_user_info(c.next_url) if origin_of(c.next_url) else None
     is_other = url is not None and url not in [c.asked_url, *(hop.asked for hop in c.hops)]
-    return [ask_for(url, c)] if is_other else []
+    return [ask_for(url, c)] if is_other and not c.comes_back else []
 
 
 def location(value):

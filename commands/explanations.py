@@ -36,6 +36,11 @@ def always(c):
 
 
 CORS_CHECK = [
+    Way("redirect/cycle", "12", lambda c: c.has_no_end,
+        "the answer redirects ({c.status}) to {c.whereto}, and that leads back to {c.comes_back}: such a chain has no end, "
+        "whatever its headers are", "Location",
+        "let one of these URLs answer itself; look for a login that waits for a cookie which is never sent, or http and https "
+        "that lead to each other", REDIRECTS),
     Way("cors/no-rule", "7 12", lambda c: c.has_no_rule,
         "the scenario's server {c.request.origin} has no rule for {c.request.method} {c.request.target}, so the answer is "
         "an empty 404 without CORS headers; {c.nearest_rule}", "",
