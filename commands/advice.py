@@ -91,8 +91,8 @@ def places(case, first=0):
 # ---- changes
 
 def advised(case):
-    """All that is named: the explanation's change, and that of each violated policy."""
-    own = list(case.explanation.edits) if case.explanation else []
+    """All that is named: the explanation's change, what is to be exposed besides, and the change of each violated policy."""
+    own = [*case.explanation.edits, *case.explanation.exposing] if case.explanation else []
     return own + [edit for policy in case.policies_told for edit in policy.edits if edit not in own]
 
 
@@ -208,7 +208,7 @@ def sentences(case):
 def unsaid(case):
     """Edits of headers and policies that are data alone, and stand in no line."""
     text = sentences(case)
-    own = case.explanation.edits if case.explanation else []
+    own = [*case.explanation.edits, *case.explanation.exposing] if case.explanation else []
     said = [edits.line_of(edit).strip("`") for edit in own if edit["at"] in ("answer", "preflight") and "set" in edit
             and edit["set"] not in ("status", "head", "Content-Length")]
     said += ["%s %s" % (edit["set"], edit["value"]) for edit in own if "policy" in edit]

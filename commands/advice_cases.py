@@ -83,6 +83,10 @@ PREFLIGHTS = {
     "an origin with a slash, JSON and credentials": scenario(
         fetch(**JSON, **INCLUDE), [asked(204, [ALLOW + "Origin", PAGE + "/"]), rule()]),
     "credentials in capitals": scenario(fetch(**PUT, **INCLUDE), [asked(204, OK, [ALLOW + "Credentials", "TRUE"]), rule()]),
+    "a preflight before headers that are not exposed": scenario(
+        fetch(**PUT), [asked(404), rule(200, [["X-Total", "4"], ["Date", "now"], ["ETag", '"1"'], ["Expires", "0"]])]),
+    "a preflight before a header that is asked for": scenario(
+        [fetch(**PUT), fetch("/${header:X-Next}")], [asked(404), rule()]),
     "an upload": scenario(fetch(method="POST", body="a", upload=True), [asked(404), rule()]),
 }
 CORS = {
@@ -96,6 +100,8 @@ CORS = {
     "exposed names of others": answered(OK, exposed("x-page, X-PAGE"), ["X-Total", "4"], ["X-Page", "1"], ["X-Rest", "2"]),
     "an exposed star, credentials and a name": answered(
         OK, TRUE, exposed("*, X-Page"), ["X-Total", "4"], ["X-Page", "1"], **INCLUDE),
+    "a refused answer with headers": answered(exposed("X-Page"), ["X-Total", "4"], ["X-Page", "1"]),
+    "a refused answer that exposes all": answered(exposed("*"), ["X-Total", "4"]),
     "an image that is not shared": scenario(
         load("image", "https://img.shop.test/x"), [rule(200, [OWN])], "https://img.shop.test"),
     "no-cors with a header that is dropped": scenario(fetch(mode="no-cors", **NAMED), [rule(200, [OWN])]),

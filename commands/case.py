@@ -10,13 +10,12 @@ from urllib.parse import urlsplit
 
 from commands import answers, csp
 from commands.needs import (ALLOW_CREDENTIALS, ALLOW_HEADERS, ALLOW_METHODS, ALLOW_ORIGIN, EXPOSE_HEADERS, TOKEN, Needs,
-                            items_of)
+                            each_once, items_of, missed, unseen)
 from commands.play_text import header_of, is_preflight
 from commands.scenario import joined, origin_of
 from commands.urls import host_of, is_address, is_trustworthy, scheme_of, secure
 
 ALGORITHMS = ("sha256", "sha384", "sha512")
-LIKE_CORS = re.compile(r"ac+es+-cont?rol-", re.I)  # a header of CORS, written right or wrong
 CHUNK_LINE = re.compile(rb"([0-9a-fA-F]{1,16})[^\r\n]*\r\n")
 REDIRECTS = (301, 302, 303, 307, 308)
 MOST_REDIRECTS = 20
@@ -55,6 +54,7 @@ class Case:
         self.chain = [(request, answer) for request, answer in exchanges if not is_preflight(request)]
         self.document = scenario.documents()[fetch.document.number]
         self.about = None
+        self.asked_by_test = []  # the headers that a test wants the script to see
 
     # ---- the page and the request
 
@@ -544,13 +544,6 @@ class Case:
     def body_limit(self):
         return self.scenario.data.get("body_limit", 1048576) if self.scenario.data.get("format") == 2 else 262144
 
-    @property
-    def hidden(self):
-        """The names of the answer's headers that the script does not see."""
-        seen = {name.lower() for name, _ in self.result.headers}
-        return [name for name, _ in (self.head.headers if self.head else [])
-                if name.lower() not in seen and not name.lower().startswith("access-control-")]
-
     # ---- links
 
     @property
@@ -666,11 +659,29 @@ class Case:
 
     @property
     def hidden_names(self):
-        """What a script might miss: not what no script sees, not what belongs to the connection, and no misspelt header of
-        CORS."""
-        never = {"set-cookie", "set-cookie2", "vary", "connection", "transfer-encoding", "date", "server", "keep-alive",
-                 "strict-transport-security", "content-encoding", "x-content-type-options", "cross-origin-resource-policy"}
-        return list(dict.fromkeys(name for name in self.hidden if name.lower() not in never and not LIKE_CORS.match(name)))
+        """The answer's headers that the script does not see, and might miss."""
+        seen = {name.lower() for name, _ in self.result.headers}
+        return each_once(missed(name for name in names_of(self.head) if name.lower() not in seen))
+
+    @property
+    def own_head(self):
+        """The head of the answer to the request itself, also behind a preflight that was refused; None where it is not known."""
+        if not is_preflight(self.request):
+            return self.head
+        request = copy.copy(self.request)
+        request.method = self.method
+        return None if self.is_net else answers.scripted(self.scenario, request).head
+
+    @property
+    def unexposed_names(self):
+        """The headers that the script will miss once the answer is read: those of the answer, as far as it is known, and those
+        that its next command or a test asks for. Of an answer that redirects none is read."""
+        head = self.own_head
+        if self.command.is_load or head is not None and head.status in REDIRECTS:
+            return []
+        following = self.fetch.document.fetches[self.fetch.number + 1:][:1]
+        asked = [*self.asked_by_test, *(name for fetch in following for name in fetch.command.headers_of_templates())]
+        return each_once(unseen(missed(names_of(head)) + asked, head.get(EXPOSE_HEADERS) if head else None, self.includes))
 
     @property
     def hidden_by_cors(self):
@@ -692,6 +703,10 @@ class Case:
     @staticmethod
     def whole(request):
         return request.origin + request.target
+
+
+def names_of(head):
+    return [name for name, _ in head.headers] if head else []
 
 
 def are_whole(data, at):

@@ -139,8 +139,20 @@ def mode_cors(c):
 
 
 def expose(c):
-    known = {name.lower() for name, _ in c.head.headers}
-    return [[here(c, EXPOSE_HEADERS, merged(c.get(EXPOSE_HEADERS), c.hidden_names, True, known))]]
+    return [[here(c, EXPOSE_HEADERS, exposing(c.head, c.hidden_names))]]
+
+
+def expose_too(c):
+    """What is to be exposed besides, so that the script sees the headers of an answer that was refused."""
+    names = c.unexposed_names
+    value = exposing(c.own_head, names)
+    return [edits.answer(c.needs_told.method, c.asked_url, EXPOSE_HEADERS, value)] if names else []
+
+
+def exposing(head, names):
+    """The value that exposes names besides those that are exposed; the head is None where it is not known."""
+    known = {name.lower() for name, _ in head.headers} if head else None
+    return merged(head.get(EXPOSE_HEADERS) if head else None, names, True, known)
 
 
 # ---- redirects

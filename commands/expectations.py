@@ -6,7 +6,7 @@ import re
 from commands import (asking, findings, json_text, lints, play_text, policy_questions, refusals, results, running,
                       streams, verdicts)
 from commands.asking import Wrong
-from commands.explanations import TABLE
+from commands.explanations import TABLE, explain
 from commands.schema import Schema
 
 SCHEMA = os.path.join(running.ROOT, "schema", "expect.schema.json")
@@ -243,6 +243,9 @@ def of_fetch(key, wanted, cases):
     wanted = {"result": wanted} if isinstance(wanted, str) else wanted
     found = list(of_case(case, wanted))
     yield from ("%s: %s" % (key, line) for line in found)
+    if found and "sees" in wanted:
+        case.asked_by_test = list(wanted["sees"])
+        case.explanation = explain(case)
     if found and case.explanation:
         yield from ("  " + line for line in case.explanation.lines())
 

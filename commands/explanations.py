@@ -476,7 +476,8 @@ class Explanation:
             condition, change = ASKED.get(way.name, (condition, change))
             rule = "../ask.md" if rule.startswith("../check-your-server.md") else rule
         found = [one for one in way.changes(c) if one]
-        is_asked = key_of(c.result) in PREFLIGHTED and c.about is None and way not in DIRECT and c.origin != "null"
+        is_of_cors = key_of(c.result) in (*PREFLIGHTED, "12") and c.about is None and way not in DIRECT
+        is_asked = is_of_cors and key_of(c.result) != "12" and c.origin != "null"
         self.way = way.name
         self.condition = condition.format(c=c)
         if c.verdict == "refused":  # by a policy, whatever this engine loads
@@ -491,6 +492,7 @@ class Explanation:
         self.value = c.get(self.header) if self.header else None
         self.misspelt = misspelt(c, self.header) if self.header and self.value is None else None
         self.needs = c.needs_told.lines() if is_asked else []
+        self.exposing = changes.expose_too(c) if is_of_cors else []
 
     def lines(self):
         """As it stands between the lines of a play."""
@@ -499,7 +501,7 @@ class Explanation:
             value = "is not there" if self.value is None else ": " + self.value
             value += "; is `%s` meant for it?" % self.misspelt if self.misspelt else ""
             lines.append("header: %s%s" % (self.header, value if value.startswith(":") else " " + value))
-        needs = ["in all: " + line for line in self.needs]
+        needs = ["in all: " + line for line in self.needs + list(map(exposed, self.exposing))]
         return lines + ["change: " + self.change, *needs, "rule: %s (%s)" % (self.rule, self.way)]
 
     def data(self):
@@ -522,6 +524,10 @@ class PolicyExplanation(Explanation):
 
 # where no change is to be made
 NOTHING = "nothing is to be changed"
+
+
+def exposed(edit):
+    return f"where the script is to see these headers too, the answer to {edit['method']} needs {edits.line_of(edit)}"
 
 
 def shown(change):

@@ -10,6 +10,16 @@ ALLOW_METHODS = "Access-Control-Allow-Methods"
 ALLOW_HEADERS = "Access-Control-Allow-Headers"
 EXPOSE_HEADERS = "Access-Control-Expose-Headers"
 TOKEN = re.compile(r"[!#$%&'*+\-.^_`|~0-9A-Za-z]+")
+LIKE_CORS = re.compile(r"ac+es+-cont?rol-", re.I)  # a header of CORS, written right or wrong
+# What a script of another origin sees of each answer (Fetch, section 2.2.2, "CORS-safelisted response-header name").
+SAFELISTED = {"cache-control", "content-language", "content-length", "content-type", "expires", "last-modified", "pragma"}
+# What no script sees, and what belongs to the connection, to caches or to a page, and says nothing to a script.
+NEVER_MISSED = {
+    "alt-svc", "connection", "content-encoding", "content-security-policy", "content-security-policy-report-only",
+    "cross-origin-embedder-policy", "cross-origin-opener-policy", "cross-origin-resource-policy", "date", "keep-alive", "nel",
+    "origin-agent-cluster", "permissions-policy", "referrer-policy", "report-to", "reporting-endpoints", "server",
+    "set-cookie", "set-cookie2", "strict-transport-security", "timing-allow-origin", "trailer", "transfer-encoding",
+    "upgrade", "vary", "via", "x-content-type-options", "x-frame-options", "x-powered-by", "x-xss-protection"}
 
 
 def items_of(value):
@@ -27,6 +37,29 @@ def merged(value, more, as_names, known=None):
     for item in there + list(more):
         found.setdefault(item.lower() if as_names else item, item)
     return ", ".join(found.values())
+
+
+def unseen(names, exposing, includes):
+    """Those of an answer's names that a script of another origin does not see, by the value of its
+    Access-Control-Expose-Headers (docs/rules/responses.md)."""
+    listed = items_of(exposing)
+    exposed = {item.lower() for item in listed} if all(map(TOKEN.fullmatch, listed)) else set()
+    if "*" in exposed and not includes:
+        return []
+    return [name for name in names if name.lower() not in SAFELISTED | exposed]
+
+
+def missed(names):
+    """Those that a script might miss."""
+    return [name for name in names if name.lower() not in NEVER_MISSED and not LIKE_CORS.match(name)]
+
+
+def each_once(names):
+    """Each once, whatever its case."""
+    found = {}
+    for name in names:
+        found.setdefault(name.lower(), name)
+    return list(found.values())
 
 
 class Needs:

@@ -46,6 +46,11 @@ class Command:
     def includes(self):
         return self.options["credentials"] == "include"
 
+    def headers_of_templates(self):
+        """The names of those headers of the last result that its templates put in."""
+        texts = [self.options["url"], self.options["body"] or "", *(value for _, value in self.options["headers"])]
+        return [found.group(2) for text in texts for found in TEMPLATE.finditer(text) if found.group(2)]
+
 
 def load_options(given):
     """Mode and credentials mode of a load, by its kind and its attribute crossorigin."""
