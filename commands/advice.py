@@ -119,22 +119,30 @@ def at_page(data, case, edit):
     if "policy" not in edit:
         document[edit["set"]] = edit["value"]
         return
+    change_policies(document, lambda number, text: csp.with_directive(text, edit["set"], edit["value"])
+                    if number == edit["policy"] else text)
+
+
+def change_policies(document, change):
+    """Puts `change(number, text)` in the place of each policy of a document."""
     number = 0
-    for header in document["headers"]:
+    for header in document.get("headers", []):
         parts = header[1].split(",") if header[0].lower() in csp.HEADERS else []
         for index, part in enumerate(parts):
             if csp.directives(part):
-                if number == edit["policy"]:
-                    parts[index] = with_directive(part, edit["set"], edit["value"])
+                parts[index] = change(number, part)
                 number += 1
         header[1] = ",".join(parts) if parts else header[1]
 
 
-def with_directive(policy, name, value):
-    """A policy with a directive in the place of the one of this name, or behind all."""
-    parts = [part.strip() for part in policy.split(";") if part.strip()]
-    index = next((number for number, part in enumerate(parts) if part.split()[0].lower() == name), len(parts))
-    return "; ".join([*parts[:index], name + " " + value, *parts[index + 1:]])
+def made_whole(data, told):
+    """The scenario with all changes of its policies at once, and what the elements need besides."""
+    for case in told.cases:
+        data = made(data, case, [edit for edit in advised(case) if edit["at"] != "page" and case.violations])
+    for number, document in enumerate(data["documents"]):
+        texts = {one.policy: one.value for one in told.whole_policies.get(number, [])}
+        change_policies(document, lambda number, text: texts.get(number, text))
+    return data
 
 
 def at_scenario(data, case, edit):

@@ -217,6 +217,30 @@ OTHERS = {
 }
 
 
+# Pages whose loads violate policies in several ways: each with its policies as all changes together make them.
+WHOLE = {
+    "a site's loads": (scenario(
+        [script(url=CDN + "/v1/a.js"), script(url=CDN + "/v2/b.js"), load("style", CDN + "/a.css"),
+         load("image", IMAGES + "/a.png"), load("image", IMAGES + "/b.png"), load("image", "data:image/png,a"),
+         load("font", "https://fonts.test/f"), fetch(), fetch("wss://live.test/x"), fetch("/own"),
+         load("audio", "https://media.test/a"), load("manifest", CDN + "/m.json")],
+        headers=[[POLICY, "default-src 'self'; script-src 'self' https://cdn.test/v1"]]), {
+            0: "default-src 'self'; script-src 'self' https://cdn.test/v1 https://cdn.test; style-src 'self' https://cdn.test; "
+               "img-src 'self' https://img.test data:; font-src 'self' https://fonts.test; "
+               "connect-src 'self' https://api.test wss://live.test; media-src 'self' https://media.test; "
+               "manifest-src 'self' https://cdn.test"}),
+    "three policies": (scenario(
+        [load("image", IMAGES + "/i.png"), load("image", "/i.png"), fetch("/x")],
+        headers=[[POLICY, "default-src 'none', img-src 'self'"], [REPORT, "default-src https:; img-src self"]]), {
+            0: "default-src 'none'; img-src https://img.test 'self'; connect-src 'self'",
+            1: "img-src 'self' https://img.test", 2: "default-src https:; img-src 'self' https://img.test"}),
+    "nonces of elements": (scenario([script(), script(url=CDN + "/x", nonce="b")], headers=[[POLICY, "script-src 'nonce-a'"]]), {}),
+    "scripts without a nonce": (
+        scenario([script(), script(url=CDN + "/x")], headers=[[POLICY, "script-src 'strict-dynamic'"]]),
+        {0: "script-src 'strict-dynamic' 'nonce-r4nd0m'"}),
+}
+
+
 def scripted():
     """Each by its name."""
     for group in (PREFLIGHTS, CORS, CHAINS, POLICIES, OTHERS):

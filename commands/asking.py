@@ -99,7 +99,9 @@ class Said:
             "warnings": [dict(zip(("line", "column", "sentence"), warning)) for warning in self.warnings]
             + [dict(zip(("url", "header", "sentence"), warning)) for warning in self.answer_warnings],
             "fetches": [{**one, **findings.of(case), "summary": line}
-                        for one, case, line in zip(self.told.data(), self.told.cases, lines)]}
+                        for one, case, line in zip(self.told.data(), self.told.cases, lines)],
+            "policies_in_all": [{"document": number, "policy": one.policy, "enforced": one.enforced, "value": one.value}
+                                for number, own in self.told.whole_policies.items() for one in own]}
 
     def write(self, name):
         """The verdicts, the warnings, and the play with what is said between its lines."""

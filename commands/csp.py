@@ -33,13 +33,18 @@ Near = namedtuple("Near", "fault word written")
 
 # ---- policies
 
-def numbered(headers):
-    """All policies, numbered as docs/rules/csp.md does: of each whether it is enforced, and its directives."""
+def texts(headers):
+    """All policies, numbered as docs/rules/csp.md does: of each whether it is enforced, and its text."""
     found = []
     for name, value in headers:
         if name.lower() in HEADERS:
-            found += [(HEADERS[name.lower()], policy) for policy in map(directives, value.split(",")) if policy]
+            found += [(HEADERS[name.lower()], text) for text in value.split(",") if directives(text)]
     return found
+
+
+def numbered(headers):
+    """The same, with the directives of each."""
+    return [(enforced, directives(text)) for enforced, text in texts(headers)]
 
 
 def policies(headers):
@@ -55,6 +60,13 @@ def directives(text):
         if words and part.isascii():
             policy.setdefault(words[0].lower(), words[1:])
     return policy
+
+
+def with_directive(text, name, value):
+    """The text of a policy with a directive in the place of the one of this name, or behind all."""
+    parts = [part.strip() for part in text.split(";") if part.strip()]
+    index = next((number for number, part in enumerate(parts) if part.split()[0].lower() == name), len(parts))
+    return "; ".join([*parts[:index], name + " " + value, *parts[index + 1:]])
 
 
 def deciders(effective):

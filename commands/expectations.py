@@ -6,7 +6,7 @@ import re
 from commands import (asking, findings, json_text, lints, play_text, policy_questions, refusals, results, running,
                       streams, verdicts)
 from commands.asking import Wrong
-from commands.explanations import TABLE, explain
+from commands.explanations import TABLE, explain, lines_of
 from commands.schema import Schema
 
 SCHEMA = os.path.join(running.ROOT, "schema", "expect.schema.json")
@@ -153,7 +153,9 @@ def outcome(path, data, is_net, patience, is_strict=False):
 def outcome_of(test, is_net, patience, is_strict):
     try:
         text, scenario, told = asking.played(test.scenario, is_net, patience)
-        lines = [*differences(test.expect, told), *policy_questions.differences(test.expect, scenario)]
+        refused = []
+        lines = [*differences(test.expect, told, refused), *policy_questions.differences(test.expect, scenario, refused)]
+        lines += whole_lines(scenario, refused)
     except Wrong as wrong:
         return Outcome(test.name, wrong.refusal.told(test.scenario_name))
     except (running.Failed, play_text.NoPlay) as failure:
@@ -191,7 +193,21 @@ def unnamed(expect, told):
         yield f"warning: {len(left) - MOST_UNNAMED} more fetches and loads are not named: add them"
 
 
-def differences(expect, told):
+def whole_lines(scenario, refused):
+    """The policies that let all pass which a policy has refused, by pairs of a document's number and a case; where one has
+    several changes."""
+    by_document = {}
+    for number, case in refused:
+        by_document.setdefault(number, []).append(case)
+    for number, cases in sorted(by_document.items()):
+        from commands.whole_policies import whole
+        name = f"document {number}: " if len(scenario.documents()) > 1 else ""
+        wholes = whole(scenario.documents()[number].get("headers", []), cases)
+        yield from (name + one.line() for one in wholes if one.enforced and one.changes > 1)
+
+
+def differences(expect, told, refused):
+    """Lines for all that came otherwise. What a policy has refused is added to `refused`."""
     cases = {(case.fetch.document.number, case.fetch.name): case for case in told.cases}
     for key, wanted in expect.items():
         if key == "sent":
@@ -199,7 +215,7 @@ def differences(expect, told):
         elif key == "never sent":
             yield from unwanted(told, listed(wanted))
         elif key not in policy_questions.KEYS:
-            yield from of_fetch(key, wanted, cases)
+            yield from of_fetch(key, wanted, cases, refused)
 
 
 def listed(wanted):
@@ -234,7 +250,7 @@ def unwanted(told, wanted):
 
 # ---- one fetch
 
-def of_fetch(key, wanted, cases):
+def of_fetch(key, wanted, cases, refused):
     case = cases.get(fetch_of(key))
     if case is None:
         has = ", ".join(name for _, name in list(cases)[:20]) or "none"
@@ -246,8 +262,9 @@ def of_fetch(key, wanted, cases):
     if found and "sees" in wanted:
         case.asked_by_test = list(wanted["sees"])
         case.explanation = explain(case)
-    if found and case.explanation:
-        yield from ("  " + line for line in case.explanation.lines())
+    if found:
+        refused += [(case.fetch.document.number, case)] if case.violations else []
+        yield from ("  " + line for line in lines_of(case))
 
 
 def of_case(case, wanted):

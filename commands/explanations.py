@@ -560,6 +560,12 @@ def explain(case):
     return None if way is None else Explanation(way, case)
 
 
+def lines_of(case):
+    """What is said of one that is refused: why, and what to change in each policy that refuses it."""
+    own = case.explanation.lines() if case.explanation else []
+    return own + [line for policy in case.policies_told if policy.enforced for line in policy.lines()]
+
+
 def explain_policies(case):
     """What to change in each violated policy, except the one that the explanation is about."""
     way = case.explanation.way if case.explanation else ""

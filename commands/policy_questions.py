@@ -4,6 +4,7 @@ import json
 import re
 
 from commands import asking
+from commands.explanations import lines_of
 from commands.refusals import nearest
 from commands.scenario import joined, origin_of
 
@@ -51,8 +52,9 @@ def problem(text):
     return None
 
 
-def differences(expect, scenario):
-    """Lines for each question that is answered otherwise than expected."""
+def differences(expect, scenario, refused):
+    """Lines for each question that is answered otherwise than expected. What a policy has refused is added to `refused`, with
+    the number of the document."""
     questions = [Question(key, text) for key in KEYS for text in listed(expect.get(key, []))]
     count = len(scenario.documents())
     for question in questions:
@@ -61,7 +63,9 @@ def differences(expect, scenario):
                 question.key, question.text, count, "" if count == 1 else "s")
     known = [question for question in questions if question.document < count]
     for case, question in answered(scenario.data, known):
-        yield from difference(question, case)
+        told = list(difference(question, case))
+        refused += [(question.document, case)] if told and question.key == "allowed" and case and case.violations else []
+        yield from told
 
 
 def listed(wanted):
@@ -132,4 +136,4 @@ def difference(question, case):
         yield "blocked: expected that a policy refuses %s; it came to %s" % (question.text, came)
     if question.key == "allowed" and (is_blocked or not case.exchanges):  # by another rule, where nothing is sent
         yield "allowed: expected that %s is let through; it came to %s" % (question.text, came)
-        yield from ("  " + line for line in (case.explanation.lines() if case.explanation else []))
+        yield from ("  " + line for line in lines_of(case))

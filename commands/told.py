@@ -1,5 +1,7 @@
 """A play with the answers of the servers and the explanations between its lines. Each line that is not of the play begins
 with `<` or `#`, so the play is what is left without them."""
+import functools
+
 from commands import answers
 from commands.case import Case
 from commands.explanations import explain, explain_policies
@@ -31,8 +33,22 @@ class Told:
             for request, answer in case.exchanges:
                 behind.setdefault(request.last, []).extend("< " + line for line in answer_lines(answer))
             behind.setdefault(case.result.last, []).extend("# " + line for line in own_lines(case))
+        for document in self.play.documents:
+            wholes = self.whole_policies.get(document.number, [])
+            behind.setdefault(document.last, []).extend("# " + one.line() for one in wholes if one.changes > 1)
         for number, line in enumerate(self.play.lines, 1):
             yield line, behind.get(number, [])
+
+    @functools.cached_property
+    def whole_policies(self):
+        """By the number of a document each of its policies that has changes, with all of them."""
+        if not any(case.violations for case in self.cases):
+            return {}
+        from commands.whole_policies import whole
+        by_document = {}
+        for case in self.cases:
+            by_document.setdefault(case.fetch.document.number, []).append(case)
+        return {number: whole(cases[0].document.get("headers", []), cases) for number, cases in by_document.items()}
 
     def data(self):
         return [case_data(case) for case in self.cases]
