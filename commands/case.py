@@ -632,7 +632,8 @@ class Case:
         """The request of a redirect with this status to this URL, as far as rules look at it."""
         request, parts = copy.copy(request), urlsplit(url)
         request.origin, request.target = origin_of(url), (parts.path or "/") + ("?" + parts.query if parts.query else "")
-        if status == 303 and request.method != "HEAD" or status in (301, 302) and request.method == "POST":
+        becomes_get = status == 303 and request.method != "HEAD" or status in (301, 302) and request.method == "POST"
+        if becomes_get and not is_preflight(request):
             request.method = "GET"
         return request
 

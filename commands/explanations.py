@@ -481,7 +481,7 @@ class Explanation:
         self.way = way.name
         self.condition = condition.format(c=c)
         if c.verdict == "refused":  # by a policy, whatever this engine loads
-            self.condition = self.condition.replace("no verdict: ", "", 1)
+            self.condition = self.condition.removeprefix("no verdict: ")
         told = edits.sentence([shown(one) for one in found] if is_asked else found)
         change = change if told else change.replace("{change}; or ", "")
         self.change = change.format(c=c, change=told or NOTHING)

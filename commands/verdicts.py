@@ -24,7 +24,7 @@ def word_of(case):
 
 def condition_of(case):
     """Why it came to that, without that there is no verdict; an empty text where nothing is to be said."""
-    return case.explanation.condition.replace(NO_VERDICT, "", 1) if case.explanation else ""
+    return case.explanation.condition.removeprefix(NO_VERDICT) if case.explanation else ""
 
 
 def told_of(case):
