@@ -91,7 +91,7 @@ def places(case, first=0):
 # ---- changes
 
 def advised(case):
-    """All that is named: the explanation's change, what is to be exposed besides, and the change of each violated policy."""
+    """All that is named: the explanation's change, what is to be exposed besides, and that of each violated policy."""
     own = [*case.explanation.edits, *case.explanation.exposing] if case.explanation else []
     return own + [edit for policy in case.policies_told for edit in policy.edits if edit not in own]
 

@@ -135,7 +135,8 @@ CHAINS = {
     "a POST that leads to itself as a GET": scenario(
         fetch(method="POST", body="a"), [led("/x", 303, method="POST"), rule()]),
     "preflights that lead to each other": scenario(
-        fetch(**PUT), [led(CDN + "/x", method="OPTIONS"), rule()], **at(CDN, led(API + "/x", method="OPTIONS"), rule())),
+        fetch(**PUT), [led(CDN + "/x", method="OPTIONS"), rule()],
+        **at(CDN, led(API + "/x", method="OPTIONS"), rule())),
     "a slash that is put there and taken away": scenario(fetch(**PUT), [led("/x/", path="/x"), led("/x", path="/x/")]),
     "an error mode without a Location": answered(OK, status=302, redirect="error"),
     "an opaque redirect to another origin": scenario(
@@ -225,8 +226,9 @@ WHOLE = {
          load("font", "https://fonts.test/f"), fetch(), fetch("wss://live.test/x"), fetch("/own"),
          load("audio", "https://media.test/a"), load("manifest", CDN + "/m.json")],
         headers=[[POLICY, "default-src 'self'; script-src 'self' https://cdn.test/v1"]]), {
-            0: "default-src 'self'; script-src 'self' https://cdn.test/v1 https://cdn.test; style-src 'self' https://cdn.test; "
-               "img-src 'self' https://img.test data:; font-src 'self' https://fonts.test; "
+            0: "default-src 'self'; script-src 'self' https://cdn.test/v1 https://cdn.test; "
+               "style-src 'self' https://cdn.test; img-src 'self' https://img.test data:; "
+               "font-src 'self' https://fonts.test; "
                "connect-src 'self' https://api.test wss://live.test; media-src 'self' https://media.test; "
                "manifest-src 'self' https://cdn.test"}),
     "three policies": (scenario(
@@ -234,7 +236,8 @@ WHOLE = {
         headers=[[POLICY, "default-src 'none', img-src 'self'"], [REPORT, "default-src https:; img-src self"]]), {
             0: "default-src 'none'; img-src https://img.test 'self'; connect-src 'self'",
             1: "img-src 'self' https://img.test", 2: "default-src https:; img-src 'self' https://img.test"}),
-    "nonces of elements": (scenario([script(), script(url=CDN + "/x", nonce="b")], headers=[[POLICY, "script-src 'nonce-a'"]]), {}),
+    "nonces of elements": (
+        scenario([script(), script(url=CDN + "/x", nonce="b")], headers=[[POLICY, "script-src 'nonce-a'"]]), {}),
     "scripts without a nonce": (
         scenario([script(), script(url=CDN + "/x")], headers=[[POLICY, "script-src 'strict-dynamic'"]]),
         {0: "script-src 'strict-dynamic' 'nonce-r4nd0m'"}),

@@ -606,8 +606,9 @@ class Case:
 
     @cached_property
     def comes_back(self):
-        """The URL to which the redirect of the last answer leads back: of the chain, or of this preflight. It is followed as
-        the scenario's servers answer; of real ones the next URL alone is known. An empty text where it does not."""
+        """The URL to which the redirect of the last answer leads back: of the chain, or of this preflight. It is
+        followed as the scenario's servers answer; of real ones the next URL alone is known. An empty text where it does
+        not."""
         been = self.exchanges[-1:] if is_preflight(self.request) else self.chain
         been = {(request.method, self.whole(request)) for request, _ in been}
         request, head = self.request, self.head
@@ -631,7 +632,8 @@ class Case:
     def redirected(request, status, url):
         """The request of a redirect with this status to this URL, as far as rules look at it."""
         request, parts = copy.copy(request), urlsplit(url)
-        request.origin, request.target = origin_of(url), (parts.path or "/") + ("?" + parts.query if parts.query else "")
+        request.origin = origin_of(url)
+        request.target = (parts.path or "/") + ("?" + parts.query if parts.query else "")
         becomes_get = status == 303 and request.method != "HEAD" or status in (301, 302) and request.method == "POST"
         if becomes_get and not is_preflight(request):
             request.method = "GET"
@@ -666,7 +668,8 @@ class Case:
 
     @property
     def own_head(self):
-        """The head of the answer to the request itself, also behind a preflight that was refused; None where it is not known."""
+        """The head of the answer to the request itself, also behind a preflight that was refused; None where it is not
+        known."""
         if not is_preflight(self.request):
             return self.head
         request = copy.copy(self.request)
@@ -675,14 +678,15 @@ class Case:
 
     @property
     def unexposed_names(self):
-        """The headers that the script will miss once the answer is read: those of the answer, as far as it is known, and those
-        that its next command or a test asks for. Of an answer that redirects none is read."""
+        """The headers that the script will miss once the answer is read: those of the answer, as far as it is known,
+        and those that its next command or a test asks for. Of an answer that redirects none is read."""
         head = self.own_head
         if self.command.is_load or head is not None and head.status in REDIRECTS:
             return []
         following = self.fetch.document.fetches[self.fetch.number + 1:][:1]
         asked = [*self.asked_by_test, *(name for fetch in following for name in fetch.command.headers_of_templates())]
-        return each_once(unseen(missed(names_of(head)) + asked, head.get(EXPOSE_HEADERS) if head else None, self.includes))
+        exposing = head.get(EXPOSE_HEADERS) if head else None
+        return each_once(unseen(missed(names_of(head)) + asked, exposing, self.includes))
 
     @property
     def hidden_by_cors(self):

@@ -125,8 +125,9 @@ def decoded(pieces, own):
 
 class Stream:
     """The answer to a request as the engine reads it. `codings` are those of its body, in order; `lacks` those that
-    nothing here decodes. `head` is that which the engine was fed in the place of what came, where it was, and `own` what
-    came; `body` is what was decoded, `is_opened` says that the engine asked for it, and `fault` what is wrong in it."""
+    nothing here decodes. `head` is that which the engine was fed in the place of what came, where it was, and `own`
+    what came; `body` is what was decoded, `is_opened` says that the engine asked for it, and `fault` what is wrong in
+    it."""
 
     def __init__(self, receive, method):
         self.method = method

@@ -154,7 +154,8 @@ def outcome_of(test, is_net, patience, is_strict):
     try:
         text, scenario, told = asking.played(test.scenario, is_net, patience)
         refused = []
-        lines = [*differences(test.expect, told, refused), *policy_questions.differences(test.expect, scenario, refused)]
+        lines = list(differences(test.expect, told, refused))
+        lines += policy_questions.differences(test.expect, scenario, refused)
         lines += whole_lines(scenario, refused)
     except Wrong as wrong:
         return Outcome(test.name, wrong.refusal.told(test.scenario_name))
@@ -194,8 +195,8 @@ def unnamed(expect, told):
 
 
 def whole_lines(scenario, refused):
-    """The policies that let all pass which a policy has refused, by pairs of a document's number and a case; where one has
-    several changes."""
+    """The policies that let all pass which a policy has refused, by pairs of a document's number and a case; where one
+    has several changes."""
     by_document = {}
     for number, case in refused:
         by_document.setdefault(number, []).append(case)

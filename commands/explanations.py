@@ -37,10 +37,10 @@ def always(c):
 
 CORS_CHECK = [
     Way("redirect/cycle", "12", lambda c: c.has_no_end,
-        "the answer redirects ({c.status}) to {c.whereto}, and that leads back to {c.comes_back}: such a chain has no end, "
-        "whatever its headers are", "Location",
-        "let one of these URLs answer itself; look for a login that waits for a cookie which is never sent, or http and https "
-        "that lead to each other", REDIRECTS),
+        "the answer redirects ({c.status}) to {c.whereto}, and that leads back to {c.comes_back}: such a chain has no "
+        "end, whatever its headers are", "Location",
+        "let one of these URLs answer itself; look for a login that waits for a cookie which is never sent, or http "
+        "and https that lead to each other", REDIRECTS),
     Way("cors/no-rule", "7 12", lambda c: c.has_no_rule,
         "the scenario's server {c.request.origin} has no rule for {c.request.method} {c.request.target}, so the answer is "
         "an empty 404 without CORS headers; {c.nearest_rule}", "",
@@ -317,8 +317,8 @@ ANSWERS = [
         "the body that came is not the one of the integrity text", "",
         "make the digest anew of the bytes as they are sent: {change}", BODY, changes.integrity),
     Way("no-verdict/coded", "23", always,
-        "no verdict: the body is coded, and this engine decodes none (requests say `Accept-Encoding: identity`); a browser "
-        "would, and CORS, policies and types let it", "Content-Encoding",
+        "no verdict: the body is coded, and this engine decodes none (requests say `Accept-Encoding: identity`); a "
+        "browser would, and CORS, policies and types let it", "Content-Encoding",
         "for a verdict here send the body uncoded, and {change}; a browser needs no change", BODY,
         changes.uncoded),
 ]

@@ -37,8 +37,8 @@ RANGE = re.compile(r"bytes=([0-9]+)-([0-9]*)")
 # What says who asks: of several headers that are dropped these are told first.
 CREDENTIALS = ("authorization", "cookie", "proxy-authorization")
 CLOSED_TO_SCRIPTS = "dropped, since no script may set it: %s"
-CLOSED_IN_NO_CORS = ("dropped, since in mode no-cors a script sets Accept, Accept-Language, Content-Language and Content-Type "
-                     "alone, with values that a form could send: %s")
+CLOSED_IN_NO_CORS = ("dropped, since in mode no-cors a script sets Accept, Accept-Language, Content-Language and "
+                     "Content-Type alone, with values that a form could send: %s")
 USER_AGENT = ("`User-Agent` is the script's: browsers send their own, and one that lets a script set it asks for a "
               "preflight of another origin first; leave it out, where it came with a command line of curl")
 
@@ -99,8 +99,8 @@ def unsafe_names(headers):
 
 
 def told(dropped):
-    """Headers that are dropped in one text, by pairs of a name and a reason, which may be empty: the names of one reason
-    together, and credentials first."""
+    """Headers that are dropped in one text, by pairs of a name and a reason, which may be empty: the names of one
+    reason together, and credentials first."""
     by_reason = {}
     for name, reason in sorted(dropped, key=lambda pair: pair[0].lower() not in CREDENTIALS):
         by_reason.setdefault(reason, {})[f"`{name}`"] = None

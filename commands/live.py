@@ -201,8 +201,8 @@ class Page:
         self.lines += printed.outcome_lines(self.as_it_came(fetch.outcome, request), kind is not None)
 
     def as_it_came(self, outcome, request):
-        """The outcome with the headers that the answer lets a page see, by the engine's own filter, where the engine was fed
-        another head."""
+        """The outcome with the headers that the answer lets a page see, by the engine's own filter, where the engine
+        was fed another head."""
         own = self.wire.exchanges[-1].stream.own if self.wire.exchanges else None
         if own is None or not isinstance(outcome, fiorrudda.Response) or outcome.kind not in ("basic", "cors"):
             return outcome

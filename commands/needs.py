@@ -12,14 +12,16 @@ EXPOSE_HEADERS = "Access-Control-Expose-Headers"
 TOKEN = re.compile(r"[!#$%&'*+\-.^_`|~0-9A-Za-z]+")
 LIKE_CORS = re.compile(r"ac+es+-cont?rol-", re.I)  # a header of CORS, written right or wrong
 # What a script of another origin sees of each answer (Fetch, section 2.2.2, "CORS-safelisted response-header name").
-SAFELISTED = {"cache-control", "content-language", "content-length", "content-type", "expires", "last-modified", "pragma"}
+SAFELISTED = {"cache-control", "content-language", "content-length", "content-type", "expires", "last-modified",
+              "pragma"}
 # What no script sees, and what belongs to the connection, to caches or to a page, and says nothing to a script.
 NEVER_MISSED = {
     "alt-svc", "connection", "content-encoding", "content-security-policy", "content-security-policy-report-only",
-    "cross-origin-embedder-policy", "cross-origin-opener-policy", "cross-origin-resource-policy", "date", "keep-alive", "nel",
-    "origin-agent-cluster", "permissions-policy", "referrer-policy", "report-to", "reporting-endpoints", "server",
-    "set-cookie", "set-cookie2", "strict-transport-security", "timing-allow-origin", "trailer", "transfer-encoding",
-    "upgrade", "vary", "via", "x-content-type-options", "x-frame-options", "x-powered-by", "x-xss-protection"}
+    "cross-origin-embedder-policy", "cross-origin-opener-policy", "cross-origin-resource-policy", "date",
+    "keep-alive", "nel", "origin-agent-cluster", "permissions-policy", "referrer-policy", "report-to",
+    "reporting-endpoints", "server", "set-cookie", "set-cookie2", "strict-transport-security",
+    "timing-allow-origin", "trailer", "transfer-encoding", "upgrade", "vary", "via", "x-content-type-options",
+    "x-frame-options", "x-powered-by", "x-xss-protection"}
 
 
 def items_of(value):

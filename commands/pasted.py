@@ -33,8 +33,8 @@ ABOUT_PAGE = ("origin", "referer")
 
 class Said:
     """The request of a page: `url`, `method`, `headers`, `body`, `mode`, `credentials`, `load`, `crossorigin`; its
-    `page` (None where nothing says it) and its `cookies`; `notes` say what became of the rest, and `was_navigation` that
-    what was copied opened a page, which is asked as a fetch."""
+    `page` (None where nothing says it) and its `cookies`; `notes` say what became of the rest, and `was_navigation`
+    that what was copied opened a page, which is asked as a fetch."""
 
     def __init__(self, given, url):
         self.given = given

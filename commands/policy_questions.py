@@ -53,8 +53,8 @@ def problem(text):
 
 
 def differences(expect, scenario, refused):
-    """Lines for each question that is answered otherwise than expected. What a policy has refused is added to `refused`, with
-    the number of the document."""
+    """Lines for each question that is answered otherwise than expected. What a policy has refused is added to
+    `refused`, with the number of the document."""
     questions = [Question(key, text) for key in KEYS for text in listed(expect.get(key, []))]
     count = len(scenario.documents())
     for question in questions:
@@ -64,7 +64,8 @@ def differences(expect, scenario, refused):
     known = [question for question in questions if question.document < count]
     for case, question in answered(scenario.data, known):
         told = list(difference(question, case))
-        refused += [(question.document, case)] if told and question.key == "allowed" and case and case.violations else []
+        if told and question.key == "allowed" and case and case.violations:
+            refused.append((question.document, case))
         yield from told
 
 

@@ -67,8 +67,8 @@ def shown(data):
 
 
 def answer_lines(answer):
-    """The head as it came, and how long the body is: of a scripted server, since how much of a real one's came before the
-    connection was closed depends on time."""
+    """The head as it came, and how long the body is: of a scripted server, since how much of a real one's came before
+    the connection was closed depends on time."""
     if answer is None:
         return []
     if answer.head is None:

@@ -1,5 +1,5 @@
-"""The verdict on a fetch or a load, in words: the line of bin/why, with what it asks for and what to change, and the line
-and the status of bin/ask, which answers whether the page would read it."""
+"""The verdict on a fetch or a load, in words: the line of bin/why, with what it asks for and what to change, and the
+line and the status of bin/ask, which answers whether the page would read it."""
 from commands import findings, results
 from commands.scenario import joined
 

@@ -1,5 +1,5 @@
-"""Policies with all changes that are named for them: where several loads violate one, each with a change of its own, one
-text lets all of them pass."""
+"""Policies with all changes that are named for them: where several loads violate one, each with a change of its own,
+one text lets all of them pass."""
 from __future__ import annotations
 
 from collections import namedtuple
