@@ -22,42 +22,37 @@ def edits_of(case) -> list[dict]:
 
 def whole(headers: list[list[str]], cases: list) -> list[Whole]:
     """Each policy of a document's headers for which a case names a change, in order."""
-    edits = [edit for case in cases for edit in edits_of(case)]
-    changed = {edit["policy"] for edit in edits}
-    return [changed_policy(number, enforced, text, [edit for edit in edits if edit["policy"] == number], cases)
-            for number, (enforced, text) in enumerate(csp.texts(headers)) if number in changed]
+    by_policy = {}
+    for edit in (edit for case in cases for edit in edits_of(case)):
+        by_name = by_policy.setdefault(edit["policy"], {})
+        by_name.setdefault(edit["set"], {})[edit["value"]] = None
+    return [changed(number, enforced, text, by_policy[number])
+            for number, (enforced, text) in enumerate(csp.texts(headers)) if number in by_policy]
 
 
-def changed_policy(number: int, enforced: bool, text: str, edits: list[dict], cases: list) -> Whole:
+def changed(number: int, enforced: bool, text: str, by_name: dict[str, dict[str, None]]) -> Whole:
+    """The policy with directives by their names, each of which has one or several values that are advised."""
     own = csp.directives(text)
-    violations = [(case, one) for case in cases for one in case.violations if one.policy == number]
-    by_name = {}
-    for edit in edits:
-        by_name.setdefault(edit["set"], {})[edit["value"]] = edit["value"].split()
-    for name, changes in by_name.items():
-        there = own.get(name, own.get("default-src", []))
-        asked = [case.asked_of(one) for case, one in violations if decides(own, name, one.directive)]
-        words = without_covered(merged(there, list(changes.values())), there, asked)
-        text = csp.with_directive(text, name, " ".join(words))
+    for name, values in by_name.items():
+        text = csp.with_directive(text, name, merged(own.get(name, own.get("default-src", [])), list(values)))
     return Whole(number, enforced, text, sum(map(len, by_name.values())))
 
 
-def decides(own: dict, name: str, effective: str) -> bool:
-    """Whether a change for an effective directive is made in the one of this name."""
-    return csp.written_for(csp.deciding(own, effective)[0], effective) == name
+def merged(there: list[str], values: list[str]) -> str:
+    """The words of all values, each once, without those that one of them has taken away or that another word covers."""
+    if len(values) == 1:
+        return values[0]
+    known, gone, added = set(there), set(), {}
+    for value in values:
+        words = value.split()
+        gone |= known.difference(words)
+        added.update((word, None) for word in words if word not in known)
+    left = [word for word in there if word not in gone]
+    standing = {*left, *added}
+    return " ".join(left + [word for word in added if without_path(word) not in standing])
 
 
-def merged(there: list[str], changes: list[list[str]]) -> list[str]:
-    """The words of all changes, each once, without those that one of them has taken away."""
-    gone = {word for word in there if any(word not in words for words in changes)}
-    return list(dict.fromkeys(word for words in changes for word in words if word not in gone))
-
-
-def without_covered(words: list[str], there: list[str], asked: list[csp.Asked]) -> list[str]:
-    """Without new words that let nothing pass but what another word lets pass."""
-    for word in words:
-        needed = [] if word in there or word.startswith("'") else [one for one in asked if csp.matches(word, one)]
-        others = [one for one in words if one != word]
-        if needed and all(any(csp.matches(one, url) for one in others) for url in needed):
-            words = others
-    return words
+def without_path(word: str) -> str | None:
+    """The word that also matches what lies beside its path; None where it has none."""
+    parts = csp.HOST.fullmatch(word)
+    return word[:-len(parts.group(4))] if parts and parts.group(4) else None
