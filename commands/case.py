@@ -624,6 +624,11 @@ class Case:
         return ""
 
     @property
+    def back_where(self):
+        is_next = self.comes_back == self.whole(self.redirected(self.request, self.status, self.next_url))
+        return "" if is_next else f" to {self.comes_back}"
+
+    @property
     def has_no_end(self):
         """Whether its chain has none. That of real servers may have one by the cookies that they set."""
         return self.is_followed(self.answer) and self.comes_back != "" and not (self.is_net and self.includes)

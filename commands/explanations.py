@@ -37,8 +37,8 @@ def always(c):
 
 CORS_CHECK = [
     Way("redirect/cycle", "12", lambda c: c.has_no_end,
-        "the answer redirects ({c.status}) to {c.whereto}, and that leads back to {c.comes_back}: such a chain has no "
-        "end, whatever its headers are", "Location",
+        "the answer redirects ({c.status}) to {c.whereto}, and that leads back{c.back_where}: such a chain has no end, "
+        "whatever its headers are", "Location",
         "let one of these URLs answer itself; look for a login that waits for a cookie which is never sent, or http "
         "and https that lead to each other", REDIRECTS),
     Way("cors/no-rule", "7 12", lambda c: c.has_no_rule,
@@ -462,7 +462,7 @@ def way_lines():
     fetch."""
     for way in TABLE:
         condition = re.sub(r"\{c\.(?:\w+[.\[])*(\w+)\]?\}", lambda found: found.group(1).replace("_", " ").upper(),
-                           way.condition.replace("{c.where}", ""))
+                           way.condition.replace("{c.where}", "").replace("{c.back_where}", ""))
         yield "%s (%s): %s" % (way.name, way.results, condition)
 
 

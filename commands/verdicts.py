@@ -84,7 +84,13 @@ def outcome(case):
     """What it comes to, why, and of one that is refused what to change."""
     came = told_of(case) if case.result.type == "loaded" else "%s, %s" % (word_of(case), told_of(case))
     is_to_change = case.explanation is not None and case.result.is_refused()
-    return "; ".join([came, case.explanation.change]) if is_to_change else came
+    return "; ".join([came, *changes_of(case)]) if is_to_change else came
+
+
+def changes_of(case):
+    """What to change: of what this engine does not load, in each policy that refuses it."""
+    of_policies = [policy.change for policy in case.policies_told if policy.enforced]
+    return of_policies if case.is_unloaded and of_policies else [case.explanation.change]
 
 
 def upgraded(case):
