@@ -195,16 +195,16 @@ def unnamed(expect, told):
 
 
 def whole_lines(scenario, refused):
-    """The policies that let all pass which a policy has refused, by pairs of a document's number and a case; where one
-    has several changes."""
-    by_document = {}
-    for number, case in refused:
-        by_document.setdefault(number, []).append(case)
-    for number, cases in sorted(by_document.items()):
+    """The policies that let all pass which a policy has refused, where one has several changes: by a document's number, a
+    case, and whether the test wants no report of it either."""
+    for number in sorted({number for number, _, _ in refused}):
         from commands.whole_policies import whole
         name = f"document {number}: " if len(scenario.documents()) > 1 else ""
-        wholes = whole(scenario.documents()[number].get("headers", []), cases)
-        yield from (name + one.line() for one in wholes if one.enforced and one.changes > 1)
+        headers = scenario.documents()[number].get("headers", [])
+        own = [(case, with_reports) for of, case, with_reports in refused if of == number]
+        wholes = [one for one in whole(headers, [case for case, _ in own]) if one.enforced]
+        wholes += [one for one in whole(headers, [case for case, with_reports in own if with_reports]) if not one.enforced]
+        yield from (name + one.line() for one in wholes if one.changes > 1)
 
 
 def differences(expect, told, refused):
@@ -264,8 +264,9 @@ def of_fetch(key, wanted, cases, refused):
         case.asked_by_test = list(wanted["sees"])
         case.explanation = explain(case)
     if found:
-        refused += [(case.fetch.document.number, case)] if case.violations else []
-        yield from ("  " + line for line in lines_of(case))
+        with_reports = "violations" in wanted
+        refused += [(case.fetch.document.number, case, with_reports)] if case.violations else []
+        yield from ("  " + line for line in lines_of(case, with_reports))
 
 
 def of_case(case, wanted):

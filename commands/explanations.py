@@ -560,10 +560,10 @@ def explain(case):
     return None if way is None else Explanation(way, case)
 
 
-def lines_of(case):
-    """What is said of one that is refused: why, and what to change in each policy that refuses it."""
-    own = case.explanation.lines() if case.explanation else []
-    return own + [line for policy in case.policies_told if policy.enforced for line in policy.lines()]
+def lines_of(case, with_reports=False):
+    """What is said of one that is refused: why, and what to change in each policy that refuses it, or reports it."""
+    told = [policy for policy in case.policies_told if policy.enforced or with_reports]
+    return (case.explanation.lines() if case.explanation else []) + [line for policy in told for line in policy.lines()]
 
 
 def explain_policies(case):

@@ -65,7 +65,7 @@ def differences(expect, scenario, refused):
     for case, question in answered(scenario.data, known):
         told = list(difference(question, case))
         if told and question.key == "allowed" and case and case.violations:
-            refused.append((question.document, case))
+            refused.append((question.document, case, False))
         yield from told
 
 
