@@ -195,15 +195,16 @@ def unnamed(expect, told):
 
 
 def whole_lines(scenario, refused):
-    """The policies that let all pass which a policy has refused, where one has several changes: by a document's number, a
-    case, and whether the test wants no report of it either."""
+    """The policies that let all pass which a policy has refused, where one has several changes: by a document's number,
+    a case, and whether the test wants no report of it either."""
     for number in sorted({number for number, _, _ in refused}):
         from commands.whole_policies import whole
         name = f"document {number}: " if len(scenario.documents()) > 1 else ""
         headers = scenario.documents()[number].get("headers", [])
-        own = [(case, with_reports) for of, case, with_reports in refused if of == number]
-        wholes = [one for one in whole(headers, [case for case, _ in own]) if one.enforced]
-        wholes += [one for one in whole(headers, [case for case, with_reports in own if with_reports]) if not one.enforced]
+        cases = [case for of, case, _ in refused if of == number]
+        reported = [case for of, case, with_reports in refused if of == number and with_reports]
+        wholes = [one for one in whole(headers, cases) if one.enforced]
+        wholes += [one for one in whole(headers, reported) if not one.enforced]
         yield from (name + one.line() for one in wholes if one.changes > 1)
 
 
