@@ -210,6 +210,8 @@ OTHERS = {
     "a HEAD with an integrity text": answered(OK, body="abc", method="HEAD", integrity=SCRIPT),
     "a script of a table": scenario(
         script(), [rule(200, [["Content-Type", "text/csv"], ["X-Content-Type-Options", "nosniff"]])]),
+    "an error page in the place of a script": scenario(
+        script(), [rule(404, [["Content-Type", "text/html"], ["X-Content-Type-Options", "nosniff"]])]),
     "a length of two": answered(OK, ["Content-Length", "3, 4"], body="abc"),
     "a known host by its whole URL": scenario(fetch("http://shop.test/x", mode="same-origin"), **KNOWN),
     "mixed content of a host that was known": scenario(

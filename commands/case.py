@@ -662,6 +662,11 @@ class Case:
         return header_of(self.request, "Access-Control-Request-Headers") or ""
 
     @property
+    def why_status(self):
+        """What is to be said of an error page in the place of what was asked for."""
+        return f"; but first look why it is {self.status}" if self.status >= 400 else ""
+
+    @property
     def right_type(self):
         return "text/css" if self.kind == "style" else "text/javascript"
 
