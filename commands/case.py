@@ -431,6 +431,12 @@ class Case:
         return self.unquoted_words[0][1] if self.unquoted_words else ""
 
     @property
+    def then_strict(self):
+        """What 'strict-dynamic' means for the page's other scripts, once it has its quotes."""
+        is_new = self.kind == "script" and "'strict-dynamic'" in [right.lower() for _, right in self.unquoted_words]
+        return "; then no host counts for scripts, and each that a parser inserts needs a nonce or a hash" if is_new else ""
+
+    @property
     def policy_nonces(self):
         return csp.nonces(self.directive[1]) if self.kind in ("script", "style") else []
 

@@ -160,7 +160,8 @@ UNLOADED = [
 POLICIES = [
     Way("policy/quotes", "4", lambda c: c.unquoted_words != [],
         "{c.policy} has `{c.directive_text}`, where `{c.unquoted_word}` lacks its quotes (`{c.unquoted_written}`), and so is "
-        "no keyword, nonce or hash", "", "{change}", "csp.md#words-section-231-source-expression", changes.put_quotes),
+        "no keyword, nonce or hash", "", "{change}{c.then_strict}", "csp.md#words-section-231-source-expression",
+        changes.put_quotes),
     Way("policy/before-upgrade", "4", lambda c: c.is_before_upgrade,
         "{c.policy} has `{c.directive_text}`, and is asked of {c.policy_url} as it is before any upgrade", "", "{change}",
         "csp.md#when-a-fetch-asks-them-section-41-integration-with-fetch", changes.before_upgrade),
