@@ -195,6 +195,14 @@ POLICIES = {
         hsts=[{"host": "h.test", "subdomains": False, "until": 10}]),
 }
 OTHERS = {
+    "a star for a request with a cookie": scenario(
+        fetch(**JSON, **INCLUDE), [rule(404, method="OPTIONS"), rule(200, [STAR])]),
+    "headers at the wrong answer": scenario(fetch(**JSON, **INCLUDE), [
+        rule(204, [OK], method="OPTIONS"), rule(200, [OK, TRUE, methods("PUT"), names("content-type, authorization")])]),
+    "a star over Authorization, with credentials": scenario(
+        fetch(**SECRET, **INCLUDE), allow(TRUE, names("*"))),
+    "two pages that ask": {**scenario(fetch(), [rule(200, [OTHER])]), "documents": [
+        {"url": page, "script": [fetch()]} for page in (PAGE + "/", "https://news.test/")]},
     "a data URL that nothing hinders": scenario(load("image", "data:image/png,a")),
     "a data URL under two policies": scenario(
         load("font", "data:font/woff2,a"), headers=[[POLICY, "default-src 'self'"], [POLICY, "font-src *"]]),

@@ -94,7 +94,7 @@ class Said:
 
     def data(self):
         """As JSON has it; schema/why.schema.json says how."""
-        lines = verdicts.brief(self.told)
+        lines = verdicts.summaries(self.told)
         return {
             "warnings": [dict(zip(("line", "column", "sentence"), warning)) for warning in self.warnings]
             + [dict(zip(("url", "header", "sentence"), warning)) for warning in self.answer_warnings],

@@ -119,6 +119,21 @@ class Case:
         return joined(self.location, self.asked_url) if self.location else ""
 
     @property
+    def next_differs(self):
+        """How little that URL differs from the one that was asked for; an empty text where it is more."""
+        scheme, _, rest = self.next_url.partition(":")
+        own_scheme, _, own_rest = self.asked_url.partition(":")
+        is_slash = rest != own_rest and rest.rstrip("/") == own_rest.rstrip("/")
+        found = (["a slash at its end"] if is_slash else []) + (["its scheme"] if scheme != own_scheme else [])
+        is_little = self.next_url != "" and (is_slash or rest == own_rest)
+        return ", which differs by %s alone" % " and ".join(found) if is_little and found else ""
+
+    @property
+    def look_for(self):
+        """Why a server redirects, where that is not seen."""
+        return "" if self.next_differs else "; look for https, a slash at the end, or a login"
+
+    @property
     def url(self):
         """The URL that the result is about."""
         if self.result.number == 4 and self.refused_before:
@@ -250,18 +265,27 @@ class Case:
         is_asked = is_preflight(self.request)
         names = [name for name in self.asked_headers.split(",") if name] if is_asked else []
         return Needs(self.asked_url, self.origin, self.includes, self.method, names,
-                     self.head if is_asked else None, None if is_asked else self.head, is_asked)
+                     self.head if is_asked else None, self.own_head, is_asked, self.varies)
+
+    @property
+    def varies(self):
+        """Whether pages of other origins ask for the URL of the last request too, or may."""
+        return self.is_net or len(self.scenario.askers.get((self.request.origin, self.request.target), ())) > 1
+
+    @property
+    def the_answer(self):
+        return "the answer to the preflight" if is_preflight(self.request) else "the answer"
+
+    @property
+    def and_vary(self):
+        return "" if self.varies else "; and `Vary: Origin`, where several origins ask"
 
     @property
     def preflight_head(self):
         """The head that answered a preflight at this URL, or would by the scenario's servers; None where it is not known."""
         heads = [answer.head for request, answer in self.exchanges
                  if is_preflight(request) and self.whole(request) == self.asked_url]
-        if heads or self.is_net:
-            return heads[-1] if heads else None
-        request = copy.copy(self.request)
-        request.method = "OPTIONS"
-        return answers.scripted(self.scenario, request).head
+        return heads[-1] if heads else self.head_of("OPTIONS")
 
     @property
     def is_page_in_small(self):
@@ -274,6 +298,7 @@ class Case:
         needs = copy.copy(self.needs)
         if self.result.number == 10 and self.is_page_in_small:
             needs.method = self.same_method
+            needs.own = self.head_of(self.same_method)
         if self.result.number == 11 and self.result.detail == "user-agent":
             needs.names = [name for name in needs.names if name != "user-agent"]
         return needs
@@ -686,10 +711,12 @@ class Case:
     def own_head(self):
         """The head of the answer to the request itself, also behind a preflight that was refused; None where it is not
         known."""
-        if not is_preflight(self.request):
-            return self.head
+        return self.head_of(self.method) if is_preflight(self.request) else self.head
+
+    def head_of(self, method):
+        """The head that answers this method at the URL of the last request; None where it is not known."""
         request = copy.copy(self.request)
-        request.method = self.method
+        request.method = method
         return None if self.is_net else answers.scripted(self.scenario, request).head
 
     @property

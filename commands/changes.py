@@ -1,6 +1,7 @@
 """What is to be changed, so that a fetch comes further: of each way all that would do, the best first, as lists of
 edits (edits.py). `c` is the case."""
 import base64
+import copy
 import re
 from urllib.parse import unquote, urlsplit
 
@@ -67,7 +68,11 @@ def cors(c):
 
 
 def cors_or_without_credentials(c):
-    return cors(c) + [[without_credentials(c)]]
+    """Without credentials, where nothing else is missing then."""
+    needs = copy.copy(c.needs_told)
+    needs.includes = False
+    is_enough = not (needs.all_edits() if is_preflight(c.request) else needs.own_edits())
+    return cors(c) + ([[without_credentials(c)]] if is_enough else [])
 
 
 def without_credentials(c):
@@ -81,11 +86,12 @@ def cors_or_next_url(c):
 
 
 def next_url_or_cors(c):
-    """The server answers first where the other URL is of another host, as that of a login, or where the scenario answers
-    nothing there."""
+    """The server answers first where the other URL is of another host, as that of a login. Where the scenario answers
+    nothing there, that URL would not do."""
+    if c.is_next_unanswered:
+        return cors(c)
     both = next_url(c) + cors(c)
-    is_better = host_of(c.next_url) == host_of(c.asked_url) and not c.is_next_unanswered
-    return both if is_better else both[::-1]
+    return both if host_of(c.next_url) == host_of(c.asked_url) else both[::-1]
 
 
 def no_rule(c):
@@ -98,15 +104,16 @@ def no_rule(c):
 
 def here(c, name, value):
     """At the last answer."""
-    return (edits.preflight(c.asked_url, name, value) if is_preflight(c.request)
-            else edits.answer(c.request.method, c.asked_url, name, value))
+    before = c.get(name)
+    return (edits.preflight(c.asked_url, name, value, before) if is_preflight(c.request)
+            else edits.answer(c.request.method, c.asked_url, name, value, before))
 
 
 def origin_null(c):
     """The page asks for the last URL itself, and is allowed there; or `*`, where no credentials go along."""
     names = guards.unsafe_names(guards.kept(c.command.headers, "cors"))
     own = None if is_preflight(c.request) else c.head
-    needs = Needs(c.asked_url, c.page_origin, c.includes, c.method, names, c.preflight_head, own, c.has_listener)
+    needs = Needs(c.asked_url, c.page_origin, c.includes, c.method, names, c.preflight_head, own, c.has_listener, c.varies)
     itself = ask_for(c.asked_url, c) + ([] if origin_of(c.asked_url) == c.page_origin else needs.all_edits())
     star = [{**edit, "value": "*"} if edit["value"] == "null" else edit for edit in cors(c)[0]]
     is_loop = c.asked_url in [hop.sent for hop in c.hops[:-1]] or c.comes_back
@@ -123,7 +130,7 @@ def in_cors(c):
     """The page asks in mode cors, or with `crossorigin`, for the last URL; and the server allows it."""
     names = guards.unsafe_names(guards.kept(c.command.headers, "cors"))
     includes = c.includes and not c.command.is_load
-    needs = Needs(c.asked_url, c.page_origin, includes, c.method, names, c.preflight_head, c.head, c.has_listener)
+    needs = Needs(c.asked_url, c.page_origin, includes, c.method, names, c.preflight_head, c.head, c.has_listener, c.varies)
     mode = edits.request("crossorigin", "anonymous") if c.command.is_load else edits.request("mode", "cors")
     return [(ask_for(c.asked_url, c) if len(c.chain) > 1 else []) + [mode] + needs.all_edits()]
 
@@ -146,7 +153,8 @@ def expose_too(c):
     """What is to be exposed besides, so that the script sees the headers of an answer that was refused."""
     names = c.unexposed_names
     value = exposing(c.own_head, names)
-    return [edits.answer(c.needs_told.method, c.asked_url, EXPOSE_HEADERS, value)] if names else []
+    before = c.own_head.get(EXPOSE_HEADERS) if c.own_head else None
+    return [edits.answer(c.needs_told.method, c.asked_url, EXPOSE_HEADERS, value, before)] if names else []
 
 
 def exposing(head, names):

@@ -4,6 +4,7 @@ answer, page, request or scenario), and `set`, `remove` or `add` what, with its 
 
     {"at": "answer", "method": "PUT", "url": "https://api.test/x", "set": "Content-Type", "value": "text/css"}
     {"at": "preflight", "method": "OPTIONS", "url": "https://api.test/x", "set": "status", "value": 204}
+    {"at": "answer", "method": "GET", "url": "https://api.test/x", "set": "Vary", "value": "A, Origin", "replaces": "A"}
     {"at": "page", "policy": 0, "set": "connect-src", "value": "'self' https://api.test"}
     {"at": "request", "set": "mode", "value": "cors"}
     {"at": "scenario", "set": "body_limit", "value": 1048576}
@@ -12,12 +13,17 @@ answer, page, request or scenario), and `set`, `remove` or `add` what, with its 
 from itertools import groupby
 
 
-def preflight(url, name, value):
-    return {"at": "preflight", "method": "OPTIONS", "url": url, "set": name, "value": value}
+def preflight(url, name, value, before=None):
+    return {"at": "preflight", "method": "OPTIONS", "url": url, "set": name, "value": value, **replacing(before)}
 
 
-def answer(method, url, name, value):
-    return {"at": "answer", "method": method, "url": url, "set": name, "value": value}
+def answer(method, url, name, value, before=None):
+    return {"at": "answer", "method": method, "url": url, "set": name, "value": value, **replacing(before)}
+
+
+def replacing(before):
+    """What an edit says of the value that the header has."""
+    return {} if before is None else {"replaces": before}
 
 
 def without(method, url, name):
@@ -52,10 +58,11 @@ def body_limit(number):
 
 # ---- sentences
 
+LONGEST = 80  # characters of a value that is replaced
 REQUEST = {
     "url": "ask for %s",
     "mode": "ask in mode %s",
-    "credentials": "ask with `credentials` `%s`",
+    "credentials": "ask with `credentials` `%s`, where the server needs no cookie",
     "redirect": "ask with `redirect` `%s`",
     "method": "use the method %s",
     "crossorigin": "write `crossorigin=\"%s\"` at the element",
@@ -67,6 +74,14 @@ REQUEST = {
 def line_of(edit):
     """A header as it is written."""
     return "`%s: %s`" % (edit["set"], edit["value"])
+
+
+def told(edit):
+    """The same, and what stands in its place now."""
+    before = edit.get("replaces")
+    if before in (None, edit["value"]):
+        return line_of(edit)
+    return "%s in place of `%s`" % (line_of(edit), before if len(before) <= LONGEST else before[:LONGEST] + "..")
 
 
 def listed(texts):
@@ -85,31 +100,40 @@ def sentence(changes):
 
 def phrase(edits):
     """One of them. Edits of one place stand together."""
-    parts = []
+    parts, before = [], None
     for where, group in groupby(edits, place):
-        parts.append(PHRASES[where[0]](list(group), is_first=not parts))
+        group = list(group)
+        parts.append(PHRASES[where[0]](group, before))
+        before = group[0]
     return ", and ".join(parts)
 
 
-def of_preflight(edits, is_first):
+def of_preflight(edits, before):
     status = [edit["value"] for edit in edits if edit["set"] == "status"]
-    lines = [line_of(edit) for edit in edits if edit["set"] != "status"]
-    if is_first and not status:
-        return "send " + listed(lines)
+    lines = [told(edit) for edit in edits if edit["set"] != "status"]
+    if before is None and not status:
+        return "send %s with the answer to OPTIONS" % listed(lines)
     return "answer OPTIONS at %s with %s" % (edits[0]["url"], listed(map(str, [*status, *lines])))
 
 
-def of_answer(edits, is_first):
-    is_here = is_first and all(edit.get("set") != "Location" for edit in edits)
-    where = "" if is_here else " with the answer of %s" % edits[0]["url"]
+def of_answer(edits, before):
+    where = answer_named(edits, before)
     gone = ["leave `%s` out" % edit["remove"] for edit in edits if "remove" in edit]
     status = ["answer with %d" % edit["value"] for edit in edits if edit.get("set") == "status"]
-    lines = [line_of(edit) for edit in edits if edit.get("set", "status") not in ("status", "head")]
+    lines = [told(edit) for edit in edits if edit.get("set", "status") not in ("status", "head")]
     head = ["send a head that is one" for edit in edits if edit.get("set") == "head"]
     return listed([*gone, *status, *head, *(["send %s%s" % (listed(lines), where)] if lines else [])])
 
 
-def of_page(edits, is_first):
+def answer_named(edits, before):
+    """Which answer it is, where that is not the one that was just told of."""
+    if before is None and all(edit.get("set") != "Location" for edit in edits):
+        return ""
+    is_same = before is not None and before.get("url") == edits[0]["url"]
+    return " with the answer to %s%s" % (edits[0]["method"], "" if is_same else " at " + edits[0]["url"])
+
+
+def of_page(edits, before):
     said = [of_policy(edit) for edit in edits if "policy" in edit]
     moved = ["serve the page as %s" % edit["value"] for edit in edits if "policy" not in edit]
     return listed([*moved, *(["let " + listed(said)] if said else [])])
@@ -120,7 +144,7 @@ def of_policy(edit):
     return said + " beside its `%s`" % edit["beside"] if "beside" in edit else said
 
 
-def of_request(edits, is_first):
+def of_request(edits, before):
     return listed(map(of_one_request, edits))
 
 
@@ -137,7 +161,7 @@ def of_one_request(edit):
     return REQUEST[edit["set"]] % edit["value"]
 
 
-def of_scenario(edits, is_first):
+def of_scenario(edits, before):
     added = ["add a server %s" % edit["value"]["origin"] for edit in edits if edit.get("add") == "server"]
     set_to = ["set `%s` to %d, in format 2" % (edit["set"], edit["value"]) for edit in edits if "set" in edit]
     return listed(added + set_to)

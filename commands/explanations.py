@@ -55,12 +55,12 @@ CORS_CHECK = [
         "the request says `Origin: null`, since a redirect led it from another origin to this one, and the answer "
         "{c.allows}", ALLOW_ORIGIN, "{change}; or redirect within one origin", "redirects.md#origin-null", changes.origin_null),
     Way("cors/preflight-redirect", "7", lambda c: c.is_redirect,
-        "the answer to the preflight redirects ({c.status}) to {c.whereto}, and preflights are not followed, whatever its "
-        "headers are", "Location", "{change}; look for https, a slash at the end, or a login", PREFLIGHT,
+        "the preflight is answered by a redirect ({c.status}) to {c.whereto}{c.next_differs}, and no redirect of a "
+        "preflight is followed, whatever headers it has", "Location", "{change}{c.look_for}", PREFLIGHT,
         changes.next_url_or_cors),
     Way("cors/preflight-login", "7", lambda c: c.allowed_origin is None and c.status in (401, 403, 407),
         "the answer to the preflight is {c.status}, without CORS headers: a preflight never carries a cookie or Authorization",
-        ALLOW_ORIGIN, "{change}, before the login is asked for", PREFLIGHT, changes.cors),
+        ALLOW_ORIGIN, "let OPTIONS pass before the login is asked for: {change}", PREFLIGHT, changes.cors),
     Way("cors/preflight-not-handled", "7", lambda c: c.allowed_origin is None and c.status in (404, 405, 501),
         "the answer to the preflight is {c.status}, without CORS headers: the server does not answer OPTIONS at "
         "{c.request.target}", ALLOW_ORIGIN, "{change}", PREFLIGHT, changes.cors),
@@ -72,26 +72,26 @@ CORS_CHECK = [
         "{change} with errors too: many servers, logins and proxies leave CORS headers out there; then look why it "
         "is {c.status}", CORS, changes.cors),
     Way("cors/absent-on-redirect", "12", lambda c: c.allowed_origin is None and c.is_redirect,
-        "the answer redirects ({c.status}) to {c.whereto}, and has no Access-Control-Allow-Origin", ALLOW_ORIGIN,
-        "{change}; each answer of a chain is checked; look for https, a slash at the end, or a login", "redirects.md",
+        "the answer redirects ({c.status}) to {c.whereto}{c.next_differs}, and has no Access-Control-Allow-Origin",
+        ALLOW_ORIGIN, "{change}; each answer of a chain is checked{c.look_for}", "redirects.md",
         changes.cors_or_next_url),
     Way("cors/absent", "7 12", lambda c: c.allowed_origin is None,
-        "the answer has no Access-Control-Allow-Origin", ALLOW_ORIGIN, "{change}", CORS, changes.cors),
+        "{c.the_answer} has no Access-Control-Allow-Origin", ALLOW_ORIGIN, "{change}", CORS, changes.cors),
     Way("cors/several", "7 12", lambda c: "," in c.allowed_origin,
-        "the answer has several values of Access-Control-Allow-Origin, which are joined to one that is no origin",
+        "{c.the_answer} has several values of Access-Control-Allow-Origin, which are joined to one that is no origin",
         ALLOW_ORIGIN, "{change}; once, with one value: look for a proxy that adds its own", CORS, changes.cors),
     Way("cors/star-with-credentials", "7 12", lambda c: c.allowed_origin == "*" and c.includes,
         "Access-Control-Allow-Origin is `*`, which passes no request with credentials", ALLOW_ORIGIN,
-        "{change}; and `Vary: Origin`, where several origins ask", CORS, changes.cors),
+        "{change}{c.and_vary}", CORS, changes.cors),
     Way("cors/written-otherwise", "7 12", lambda c: c.allowed_origin != c.origin and c.is_alike(),
         "`{c.allowed_origin}` is not `{c.origin}`, byte for byte, as the request says its origin", ALLOW_ORIGIN,
         "{change}; an origin is scheme, ://, host, and the port where it is not the default: no slash, no blank, no quotes",
         CORS, changes.cors),
     Way("cors/other-origin", "7 12", lambda c: c.allowed_origin != c.origin,
-        "the answer allows `{c.allowed_origin}`, and the request is of `{c.origin}`", ALLOW_ORIGIN,
-        "{change}, where the server trusts this origin; and `Vary: Origin`, where several origins ask", CORS, changes.cors),
+        "{c.the_answer} allows `{c.allowed_origin}`, and the request is of `{c.origin}`", ALLOW_ORIGIN,
+        "{change}, where the server trusts this origin{c.and_vary}", CORS, changes.cors),
     Way("cors/credentials-absent", "7 12", lambda c: c.allowed_credentials is None,
-        "the request has credentials, and the answer has no Access-Control-Allow-Credentials", ALLOW_CREDENTIALS,
+        "the request has credentials, and {c.the_answer} has no Access-Control-Allow-Credentials", ALLOW_CREDENTIALS,
         "{change}", CORS, changes.cors_or_without_credentials),
     Way("cors/credentials-not-true", "7 12", lambda c: c.allowed_credentials != "true",
         "Access-Control-Allow-Credentials is `{c.allowed_credentials}`, and not `true`", ALLOW_CREDENTIALS,
@@ -100,11 +100,11 @@ CORS_CHECK = [
 
 PREFLIGHTS = [
     Way("preflight/redirect", "8", lambda c: c.is_redirect,
-        "the answer to the preflight redirects ({c.status}) to {c.whereto}, and preflights are not followed", "Location",
-        "{change}; look for https, a slash at the end, or a login", PREFLIGHT, changes.next_url_or_cors),
+        "the preflight is answered by a redirect ({c.status}) to {c.whereto}{c.next_differs}, and no redirect of a "
+        "preflight is followed", "Location", "{change}{c.look_for}", PREFLIGHT, changes.next_url_or_cors),
     Way("preflight/login", "8", lambda c: c.status in (401, 403, 407),
         "the answer to the preflight is {c.status}: a preflight never carries a cookie or Authorization", "",
-        "{change}, before the login is asked for", PREFLIGHT, changes.cors),
+        "let OPTIONS pass before the login is asked for: {change}", PREFLIGHT, changes.cors),
     Way("preflight/no-handler", "8", lambda c: c.status in (404, 405, 501),
         "the answer to the preflight is {c.status}: the server does not answer OPTIONS at {c.request.target}", "",
         "{change}", PREFLIGHT, changes.cors),
@@ -118,14 +118,15 @@ PREFLIGHTS = [
         ALLOW_METHODS, "{change}", PREFLIGHT, changes.cors),
     Way("preflight/method-star-with-credentials", "10", lambda c: "*" in c.methods and c.includes,
         "Access-Control-Allow-Methods is `*`, which covers no method of a request with credentials", ALLOW_METHODS,
-        "list the method: {change}", PREFLIGHT, changes.cors),
+        "list the method beside it, since it counts for requests without credentials: {change}", PREFLIGHT, changes.cors),
     Way("preflight/method-in-another-case", "10", lambda c: c.same_method != "",
         "Access-Control-Allow-Methods has `{c.same_method}`, and the request's method is `{c.method}`: the case counts",
         ALLOW_METHODS, "{change}", PREFLIGHT, changes.method_in_another_case),
     Way("preflight/method-not-listed", "10", always,
         "Access-Control-Allow-Methods does not have {c.method}", ALLOW_METHODS,
         "list it beside what is there: {change}", PREFLIGHT, changes.cors),
-    Way("preflight/authorization-under-star", "11", lambda c: c.result.detail == "authorization" and "*" in c.names,
+    Way("preflight/authorization-under-star", "11",
+        lambda c: c.result.detail == "authorization" and "*" in c.names and not c.includes,
         "`*` in Access-Control-Allow-Headers does not cover Authorization", ALLOW_HEADERS,
         "list it by its name: {change}", PREFLIGHT, changes.cors),
     Way("preflight/user-agent", "11", lambda c: c.result.detail == "user-agent",
@@ -136,7 +137,7 @@ PREFLIGHTS = [
         ALLOW_HEADERS, "{change}", PREFLIGHT, changes.cors),
     Way("preflight/header-star-with-credentials", "11", lambda c: "*" in c.names and c.includes,
         "Access-Control-Allow-Headers is `*`, which covers no header of a request with credentials", ALLOW_HEADERS,
-        "list the names: {change}", PREFLIGHT, changes.cors),
+        "list the names beside it, since it counts for requests without credentials: {change}", PREFLIGHT, changes.cors),
     Way("preflight/header-not-listed", "11", always,
         "Access-Control-Allow-Headers does not have {c.result.detail}", ALLOW_HEADERS,
         "list it beside what is there: {change}", PREFLIGHT, changes.cors),
@@ -293,7 +294,7 @@ ANSWERS = [
         changes.header("Content-Type", lambda c: c.right_type)),
     Way("type/nosniff", "21", always,
         "the answer says `nosniff`, and its type is `{c.essence}`, which a {c.kind} may not have", "Content-Type",
-        "{change} once: of several the last counts{c.why_status}", TYPES, changes.header("Content-Type", lambda c: c.right_type)),
+        "{change}, once: of several the last counts{c.why_status}", TYPES, changes.header("Content-Type", lambda c: c.right_type)),
     Way("integrity/opaque", "22", lambda c: c.is_opaque,
         "the response is opaque, since it is of another origin and the mode is no-cors: there is no body to match", "",
         "{change}", BODY, changes.in_cors),
@@ -464,7 +465,8 @@ def way_lines():
     fetch."""
     for way in TABLE:
         condition = re.sub(r"\{c\.(?:\w+[.\[])*(\w+)\]?\}", lambda found: found.group(1).replace("_", " ").upper(),
-                           way.condition.replace("{c.where}", "").replace("{c.back_where}", ""))
+                           re.sub(r"\{c\.(?:where|back_where|next_differs)\}", "", way.condition).replace(
+                               "{c.the_answer}", "the answer"))
         yield "%s (%s): %s" % (way.name, way.results, condition)
 
 
@@ -484,7 +486,7 @@ class Explanation:
         self.condition = condition.format(c=c)
         if c.verdict == "refused":  # by a policy, whatever this engine loads
             self.condition = self.condition.removeprefix("no verdict: ")
-        told = edits.sentence([shown(one) for one in found] if is_asked else found)
+        told = edits.sentence(found)
         change = change if told else change.replace("{change}; or ", "")
         self.change = change.format(c=c, change=told or NOTHING)
         self.edits = found[0] if found else []
@@ -493,8 +495,12 @@ class Explanation:
         self.header = way.header.format(c=c)
         self.value = c.get(self.header) if self.header else None
         self.misspelt = misspelt(c, self.header) if self.header and self.value is None else None
-        self.needs = c.needs_told.lines() if is_asked else []
+        if is_asked and self.header and self.value is None and c.own_head and c.own_head.get(self.header) is not None:
+            self.condition += ", which stands with the answer to %s alone" % c.method
+        self.needs = c.needs_told.by_method() if is_asked else {}
         self.exposing = changes.expose_too(c) if is_of_cors else []
+        lines = c.needs_told.lines() if is_asked else []
+        self.in_all = lines + [exposed(edit, c.own_head is None) for edit in self.exposing]
 
     def lines(self):
         """As it stands between the lines of a play."""
@@ -503,8 +509,8 @@ class Explanation:
             value = "is not there" if self.value is None else ": " + self.value
             value += "; is `%s` meant for it?" % self.misspelt if self.misspelt else ""
             lines.append("header: %s%s" % (self.header, value if value.startswith(":") else " " + value))
-        needs = ["in all: " + line for line in self.needs + list(map(exposed, self.exposing))]
-        return lines + ["change: " + self.change, *needs, "rule: %s (%s)" % (self.rule, self.way)]
+        in_all = ["in all: " + line for line in self.in_all]
+        return lines + ["change: " + self.change, *in_all, "rule: %s (%s)" % (self.rule, self.way)]
 
     def data(self):
         return dict(self.__dict__)
@@ -528,13 +534,10 @@ class PolicyExplanation(Explanation):
 NOTHING = "nothing is to be changed"
 
 
-def exposed(edit):
-    return f"where the script is to see these headers too, the answer to {edit['method']} needs {edits.line_of(edit)}"
-
-
-def shown(change):
-    """What is not said of the answer to the request in the lines `in all`."""
-    return [edit for edit in change if edit["at"] != "answer"] or change
+def exposed(edit, is_unknown):
+    more = ", where it does not send that yet" if is_unknown else ""
+    return (f"where the script is to see these headers too, the answer to {edit['method']} needs "
+            f"{edits.told(edit)}{more}")
 
 
 def misspelt(c, wanted):

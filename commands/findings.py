@@ -1,12 +1,7 @@
 """What a fetch or load shows, as data: the policies that it violated, the URLs that were made https, and the headers that
 a server has to send. bin/why --json prints it, as schema/why.schema.json has it, and bin/expect compares with it."""
-import re
-
 from commands.play_text import is_preflight
 from commands.scenario import joined
-
-NEEDS = re.compile(r"the answer to (\S+) needs ")
-HEADER = re.compile(r"`([^`:]+): ([^`]*)`")
 
 
 def violations(case):
@@ -35,18 +30,6 @@ def is_upgrade(said, url):
     return said.lower().startswith("http:") and url.startswith("https:")
 
 
-def needs(case):
-    """The headers that the answers to a preflight and to its request have to have, by the method that is answered."""
-    found = {}
-    for sentence in case.explanation.needs if case.explanation else []:
-        asked = NEEDS.match(sentence)
-        if asked:
-            found[asked.group(1)] = dict(HEADER.findall(sentence))
-    return found
-
-
 def of(case):
-    """All of it. The explanation, where there is one, says what is needed as a map."""
-    explanation = case.explanation
-    return {"violations": violations(case), "upgraded": upgrades(case),
-            "why": {**explanation.data(), "needs": needs(case)} if explanation else None}
+    """All of it."""
+    return {"violations": violations(case), "upgraded": upgrades(case)}

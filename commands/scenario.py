@@ -187,6 +187,15 @@ class Scenario:
     def routes(self):
         return {origin: address for origin, address in reversed(self.data.get("routes", []))}
 
+    @functools.cached_property
+    def askers(self):
+        """The origins of the pages that ask for a URL, by its origin and its request target."""
+        from commands.lints import asks_of  # which reads this module
+        found = {}
+        for ask in asks_of(self):
+            found.setdefault((ask.origin, ask.target), set()).add(ask.page_origin)
+        return found
+
     def documents(self):
         return self.data["documents"]
 

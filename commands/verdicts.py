@@ -3,7 +3,7 @@ line and the status of bin/ask, which answers whether the page would read it."""
 from commands import findings, results
 from commands.scenario import joined
 
-MOST = 20  # lines above a play
+MOST = 100  # fetches and loads whose verdicts stand above a play
 LONGEST = 200  # characters of a URL
 UNSEEN = ("opaque", "opaqueredirect")
 NO_VERDICT = "no verdict: "  # as the explanation begins where a browser goes on and this engine does not
@@ -39,6 +39,11 @@ def brief(told):
     return lines(told.cases, len(told.play.documents) > 1)
 
 
+def summaries(told):
+    """The first line of each case."""
+    return [line_of(case, len(told.play.documents) > 1) for case in told.cases]
+
+
 def heading(told):
     """What stands above a play: all lines, or as many as are soon read."""
     more = len(told.cases) - MOST
@@ -47,8 +52,13 @@ def heading(told):
 
 
 def lines(cases, is_one_of_many):
-    """A line for each case; with the number of its document, where there are others."""
-    return [line_of(case, is_one_of_many) for case in cases]
+    """A line for each case, and behind it those of all that CORS wants; with the number of its document, where there
+    are others."""
+    return [line for case in cases for line in [line_of(case, is_one_of_many), *in_all(case)]]
+
+
+def in_all(case):
+    return ["  in all: " + line for line in case.explanation.in_all] if case.explanation else []
 
 
 def line_of(case, is_one_of_many):
@@ -81,9 +91,9 @@ def shown(url):
 
 
 def outcome(case):
-    """What it comes to, why, and of one that is refused what to change."""
+    """What it comes to, why, and of one that is refused what to change, where that does not follow in lines of its own."""
     came = told_of(case) if case.result.type == "loaded" else "%s, %s" % (word_of(case), told_of(case))
-    is_to_change = case.explanation is not None and case.result.is_refused()
+    is_to_change = case.explanation is not None and case.result.is_refused() and not case.explanation.needs
     return "; ".join([came, *changes_of(case)]) if is_to_change else came
 
 

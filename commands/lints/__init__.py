@@ -104,6 +104,12 @@ def places(scenario, budget):
     yield from answer_places(scenario, [ask for own in asks for ask in own.all], budget)
 
 
+def asks_of(scenario):
+    """What all documents' scripts ask for."""
+    nodes = scenario.root.member("documents").items
+    return [ask for node, document in zip(nodes, scenario.documents()) for ask in Asks(node, document).all]
+
+
 class Asks:
     """What a document's scripts ask for, as far as their text says it: without what templates put in."""
 
