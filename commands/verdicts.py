@@ -1,6 +1,6 @@
 """The verdict on a fetch or a load, in words: the line of bin/why, with what it asks for and what to change, and the
 line and the status of bin/ask, which answers whether the page would read it."""
-from commands import findings, results
+from commands import edits, findings, results
 from commands.scenario import joined
 
 MOST = 100  # fetches and loads whose verdicts stand above a play
@@ -93,12 +93,16 @@ def shown(url):
 def outcome(case):
     """What it comes to, why, and of one that is refused what to change, where that does not follow in lines of its own."""
     came = told_of(case) if case.result.type == "loaded" else "%s, %s" % (word_of(case), told_of(case))
-    is_to_change = case.explanation is not None and case.result.is_refused() and not case.explanation.needs
+    is_to_change = case.explanation is not None and case.result.is_refused()
     return "; ".join([came, *changes_of(case)]) if is_to_change else came
 
 
 def changes_of(case):
-    """What to change: of what this engine does not load, in each policy that refuses it."""
+    """What to change: of what this engine does not load, in each policy that refuses it; where the lines `in all` say
+    it, what is to be changed at the request besides."""
+    if case.explanation.needs:
+        of_request = [edit for edit in case.explanation.edits if edit["at"] == "request"]
+        return [edits.phrase(of_request)] if of_request else []
     of_policies = [policy.change for policy in case.policies_told if policy.enforced]
     return of_policies if case.is_unloaded and of_policies else [case.explanation.change]
 
