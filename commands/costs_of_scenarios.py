@@ -51,6 +51,14 @@ def many_words(compare):
     compare("how long that is told", sum(map(len, lines)) < 10000000, True)
 
 
+def large_body(compare):
+    """500 requests, each with a preflight, to a rule with a body of 3 MB."""
+    rules = [cases.rule(404, method="OPTIONS"), cases.rule(body="a" * 3000000)]
+    script = [{"repeat": 500, "do": [cases.fetch(), cases.fetch(method="PUT")]}]
+    found = said(cases.scenario(script, rules))
+    compare("the answers that are kept", len({id(answer) for case in found.told.cases for _, answer in case.exchanges}), 2)
+
+
 def equal_keys(compare):
     text = '{"format": 1, "documents": [], %s}' % ",\n".join(['"now": 1'] * 40000)
     compare("warnings of 40,000 equal keys", len(asking.Said(text.encode("utf-8"), False, 20).warnings), 39999)
@@ -103,6 +111,7 @@ COSTS = [
     ("2,000 rules of a server, and 1,000 requests that meet none", many_rules, 6),
     ("2,000 servers and cookies, and 1,000 requests to others", many_origins, 6),
     ("1,000 loads under a policy of 1,500 words", many_words, 6),
+    ("1,000 requests to a rule with a body of 3 MB", large_body, 6),
     ("40,000 equal keys in an object", equal_keys, 9),
     ("numbers of 5,000 and a million digits", long_numbers, 2),
     ("commands inside each other, with a wrong word in the deepest", nested_commands, 2),
