@@ -12,6 +12,9 @@ answer, page, request or scenario), and `set`, `remove` or `add` what, with its 
 `commands/advice.py` makes each of them."""
 from itertools import groupby
 
+LONGEST = 4096  # characters of a directive in a sentence
+ENDS = 1000  # of a longer one so many stand there of its beginning and of its end
+
 
 def preflight(url, name, value, before=None):
     return {"at": "preflight", "method": "OPTIONS", "url": url, "set": name, "value": value, **replacing(before)}
@@ -139,8 +142,13 @@ def of_page(edits, before):
     return listed([*moved, *(["let " + listed(said)] if said else [])])
 
 
+def shortened(text):
+    """A directive as a sentence has it; the data have all of it."""
+    return text if len(text) <= LONGEST else f"{text[:ENDS]} .. {text[-ENDS:]}"
+
+
 def of_policy(edit):
-    said = "policy %d say `%s %s`" % (edit["policy"], edit["set"], edit["value"])
+    said = "policy %d say `%s %s`" % (edit["policy"], edit["set"], shortened(edit["value"]))
     return said + " beside its `%s`" % edit["beside"] if "beside" in edit else said
 
 

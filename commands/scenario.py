@@ -132,6 +132,7 @@ class Scenario:
         self.data = root.plain()
         self.rules_by = {}
         self.told_by = {}
+        self.answers = {}  # of its rules, by the numbers of the server and the rule
 
     def servers(self):
         return self.data.get("servers", [])
