@@ -3,7 +3,7 @@ import functools
 import os
 import re
 
-from commands import (asking, findings, json_text, lints, play_text, policy_questions, refusals, results, running,
+from commands import (asking, edits, findings, json_text, lints, play_text, policy_questions, refusals, results, running,
                       streams, verdicts)
 from commands.asking import Wrong
 from commands.explanations import TABLE, explain, lines_of
@@ -13,6 +13,7 @@ SCHEMA = os.path.join(running.ROOT, "schema", "expect.schema.json")
 WAYS = [way.name for way in TABLE]
 OTHERS = ("sent", "never sent", *policy_questions.KEYS)  # the keys of `expect` that name no fetch
 MOST_UNNAMED = 20  # lines
+ONLY_STRICT = "all came as expected; --strict alone makes it `not ok`, for these warnings:"
 KEY = re.compile(r"(?:document ([0-9]{1,3}) )?(fetch|load) ([0-9]{1,4})")
 DIRECTIVES = ["connect-src", "img-src", "media-src", "font-src", "manifest-src", "style-src-elem", "script-src-elem"]
 # As a play prints it behind the word violation, as far as a test says it.
@@ -164,7 +165,8 @@ def outcome_of(test, is_net, patience, is_strict):
     warned = list(warnings(text, scenario, told, test.scenario_name, is_net))
     warned += [(line, True) for line in unnamed(test.expect, told)] if is_strict else []
     faults = [line for line, is_fault in warned if is_fault and is_strict]
-    return Outcome(test.name, lines + faults, [line for line, _ in warned])
+    by_strict = [ONLY_STRICT] if faults and not lines else []
+    return Outcome(test.name, lines + by_strict + faults, [line for line, _ in warned])
 
 
 def warnings(text, scenario, told, name, is_net):
@@ -272,11 +274,14 @@ def of_fetch(key, wanted, cases, refused):
 
 def of_case(case, wanted):
     """What came otherwise of one fetch or load."""
+    keys = [key for key in LOOKS if key in wanted]
     if not is_met(wanted["result"], case.result):
-        yield "expected %s; it came to %s" % (wanted["result"], case.result.short())
-    for key, look in LOOKS.items():
-        if key in wanted:
-            yield from look(case, wanted[key])
+        following = [key for key in keys if key in FOLLOWING and case.result.is_refused()]
+        keys = [key for key in keys if key not in following]
+        more = "; not compared, since it follows: " + edits.listed(following) if following else ""
+        yield "expected %s; it came to %s%s" % (wanted["result"], case.result.short(), more)
+    for key in keys:
+        yield from LOOKS[key](case, wanted[key])
 
 
 def negated(wanted):
@@ -299,8 +304,18 @@ def look_at_way(case, wanted):
 def look_at_seen(case, wanted):
     for name, value in wanted.items():
         values = [own for one, own in case.result.headers if one.lower() == name.lower()]
-        if not values or ", ".join(values) != value:
-            yield "expected to see %s: %s; %s" % (name, value, "it sees " + ", ".join(values) if values else "it sees none")
+        told = "it sees " + ", ".join(values) if values else "it sees none" + why_unseen(case, name)
+        if not values or value not in (True, ", ".join(values)):
+            yield "expected to see %s%s; %s" % (name, "" if value is True else ": " + value, told)
+
+
+def why_unseen(case, name):
+    """Why a script that reads the answer does not see a header of this name."""
+    if case.verdict != "read" or case.head is None or case.result.type == "loaded":
+        return ""
+    if case.get(name) is None:
+        return ", since the answer does not have it"
+    return ", since it is not exposed" if name.lower() not in ("set-cookie", "set-cookie2") else ", as no script does"
 
 
 def look_at_hidden(case, wanted):
@@ -348,6 +363,8 @@ def look_at_upgrades(case, wanted):
             ", ".join(listed(wanted)) or "nothing", ", ".join(came) or "nothing")
 
 
+# What a fetch that is refused has not, or has not done, and so is not looked at where it was to be read.
+FOLLOWING = ("sees", "hides", "body", "sent")
 # What a test may say of a fetch beside its result.
 LOOKS = {"why": look_at_way, "sees": look_at_seen, "hides": look_at_hidden, "body": look_at_body,
          "sent": look_at_requests, "violations": look_at_violations, "upgraded": look_at_upgrades}
