@@ -116,6 +116,9 @@ def at_request(data, case, edit):
 
 def at_page(data, case, edit):
     document = data["documents"][case.fetch.document.number]
+    if "add" in edit:
+        document.setdefault("headers", []).append([edit["add"], edit["value"]])
+        return
     if "policy" not in edit:
         document[edit["set"]] = edit["value"]
         return

@@ -194,6 +194,31 @@ POLICIES = {
         headers=[[POLICY, "connect-src http://h.test:80"], [POLICY, "connect-src 'self'"]],
         hsts=[{"host": "h.test", "subdomains": False, "until": 10}]),
 }
+PLAIN = "http://shop.test/"
+UNDER = "http://www.shop.test"
+# http URLs whose hosts were meant to be known ones.
+HOSTS = {
+    "a parent that covers no name below it": scenario(
+        fetch(UNDER + "/x"), [rule(200, [STAR])], UNDER, page=PLAIN, hsts=KNOWN["hsts"]),
+    "such a parent, and no server over http": scenario(
+        fetch(UNDER + "/x"), [rule(200, [STAR])], "https://www.shop.test", page=PLAIN, hsts=KNOWN["hsts"]),
+    "a field without its semicolon": scenario(
+        [load("image", PAGE + "/i.png"), fetch(UNDER + "/x")],
+        [rule(200, [["Strict-Transport-Security", "max-age=600 includeSubDomains"]])], PAGE, page=PLAIN,
+        servers=[{"origin": UNDER, "rules": [rule(200, [STAR])]}]),
+    "a field that came over http": scenario(
+        [load("image", "/i.png"), fetch(UNDER + "/x")],
+        [rule(200, [["Strict-Transport-Security", "max-age=600; includeSubDomains"]])], "http://shop.test", page=PLAIN,
+        servers=[{"origin": UNDER, "rules": [rule(200, [STAR])]}]),
+    "a term that has ended": scenario(
+        [{"wait": 20}, fetch(UNDER + "/x")], [rule(200, [STAR])], UNDER, page=PLAIN,
+        hsts=[{"host": "www.shop.test", "subdomains": False, "until": 10}]),
+    "a known host, and mixed content": scenario(
+        fetch("http://api.test/x"), [rule(200, [OK])], hsts=[{"host": "api.test", "subdomains": False, "until": 10}]),
+    "an own address that is upgraded": scenario(
+        fetch("http://127.0.0.1:8080/x"), [rule(200, [OK])], "https://127.0.0.1:8080",
+        headers=[[POLICY, "upgrade-insecure-requests"]]),
+}
 OTHERS = {
     "a star for a request with a cookie": scenario(
         fetch(**JSON, **INCLUDE), [rule(404, method="OPTIONS"), rule(200, [STAR])]),
@@ -256,5 +281,5 @@ WHOLE = {
 
 def scripted():
     """Each by its name."""
-    for group in (PREFLIGHTS, CORS, CHAINS, POLICIES, OTHERS):
+    for group in (PREFLIGHTS, CORS, CHAINS, POLICIES, HOSTS, OTHERS):
         yield from group.items()

@@ -54,6 +54,7 @@ class Case:
         self.chain = [(request, answer) for request, answer in exchanges if not is_preflight(request)]
         self.document = scenario.documents()[fetch.document.number]
         self.about = None
+        self.plain_reasons = []  # why the URLs of the chain stay http, as known_hosts.py has it
         self.asked_by_test = []  # the headers that a test wants the script to see
 
     # ---- the page and the request
@@ -603,8 +604,10 @@ class Case:
     @property
     def near_server(self):
         """A sentence on what the scenario has for the same host."""
-        told = self.scenario.near_origins(urlsplit(self.request.origin).hostname)
-        return "it has %s" % ", ".join(told) if told else "it has none"
+        host = urlsplit(self.request.origin).hostname
+        told = self.scenario.near_origins(host)
+        where = "of this host it has" if host in self.scenario.origins_by_host else "it has"
+        return "%s %s" % (where, ", ".join(told) or "none")
 
     @property
     def first_bytes(self):
@@ -677,8 +680,28 @@ class Case:
         return request
 
     @property
+    def stays_plain(self):
+        """Why the last URL of the chain stays http, though a host was meant to be known; or an empty text."""
+        return self.plain_reasons[-1] if len(self.plain_reasons) == len(self.hops) else ""
+
+    @property
+    def but_known(self):
+        """That its host is known, where the URL was refused before that was looked up."""
+        return "; " + self.stays_plain if self.stays_plain.startswith("its host is") else ""
+
+    @property
+    def asked_plain(self):
+        return self.stays_plain + "; so http was asked, and " if self.stays_plain else ""
+
+    @property
+    def or_known(self):
+        return "; or see to it that the host is a known one, where https was meant" if self.stays_plain else ""
+
+    @property
     def too_late(self):
-        """What is to be said of a host that the scenario has as a known one, whether it still is or not."""
+        """What is to be said of a host that the scenario has as a known one, though it is none any more."""
+        if self.but_known:
+            return ""
         host = host_of(self.url)
         is_named = any(host == one["host"] or (one["subdomains"] and host.endswith("." + one["host"]))
                        for one in self.scenario.data.get("hsts", []))

@@ -45,6 +45,11 @@ def ask_secure(c):
     return [lead_to(secure(c.url), c)]
 
 
+def ask_secure_or_upgrade(c):
+    """Or the page has all its URLs upgraded, which says nothing against a server without https."""
+    return ask_secure(c) + [[edits.upgrade_policy()]]
+
+
 def with_scheme(c):
     url = "http://" + c.command.url.strip()
     return [[edits.request("url", over(url, c))]]

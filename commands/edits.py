@@ -6,6 +6,7 @@ answer, page, request or scenario), and `set`, `remove` or `add` what, with its 
     {"at": "preflight", "method": "OPTIONS", "url": "https://api.test/x", "set": "status", "value": 204}
     {"at": "answer", "method": "GET", "url": "https://api.test/x", "set": "Vary", "value": "A, Origin", "replaces": "A"}
     {"at": "page", "policy": 0, "set": "connect-src", "value": "'self' https://api.test"}
+    {"at": "page", "add": "Content-Security-Policy", "value": "upgrade-insecure-requests"}
     {"at": "request", "set": "mode", "value": "cors"}
     {"at": "scenario", "set": "body_limit", "value": 1048576}
 
@@ -41,6 +42,11 @@ def policy(number, name, words, is_new=False):
 
 def page(name, value):
     return {"at": "page", "set": name, "value": value}
+
+
+def upgrade_policy():
+    """A policy beside those that are there."""
+    return {"at": "page", "add": "Content-Security-Policy", "value": "upgrade-insecure-requests"}
 
 
 def request(name, value):
@@ -138,8 +144,10 @@ def answer_named(edits, before):
 
 def of_page(edits, before):
     said = [of_policy(edit) for edit in edits if "policy" in edit]
-    moved = ["serve the page as %s" % edit["value"] for edit in edits if "policy" not in edit]
-    return listed([*moved, *(["let " + listed(said)] if said else [])])
+    moved = ["serve the page as %s" % edit["value"] for edit in edits if edit.get("set") == "url"]
+    added = ["serve the page with `%s: %s`, by which all its http URLs become https" % (edit["add"], edit["value"])
+             for edit in edits if "add" in edit]
+    return listed([*moved, *added, *(["let " + listed(said)] if said else [])])
 
 
 def shortened(text):

@@ -280,8 +280,11 @@ def of_case(case, wanted):
         keys = [key for key in keys if key not in following]
         more = "; not compared, since it follows: " + edits.listed(following) if following else ""
         yield "expected %s; it came to %s%s" % (wanted["result"], case.result.short(), more)
-    for key in keys:
-        yield from LOOKS[key](case, wanted[key])
+    told = {key: list(LOOKS[key](case, wanted[key])) for key in keys}
+    if told.get("upgraded"):  # so it was sent elsewhere
+        told.pop("sent", None)
+    for lines in told.values():
+        yield from lines
 
 
 def negated(wanted):
@@ -357,10 +360,16 @@ def is_part(wanted, violation):
 
 
 def look_at_upgrades(case, wanted):
+    """A URL alone, or with the cause of its upgrade behind it."""
     came = findings.upgrades(case)
-    if came != listed(wanted):
-        yield "expected that it is upgraded to %s; it was to %s" % (
-            ", ".join(listed(wanted)) or "nothing", ", ".join(came) or "nothing")
+    wanted = listed(wanted)
+    if len(came) == len(wanted) and all(one in (own["to"], own["to"] + " " + own["cause"])
+                                        for one, own in zip(wanted, came)):
+        return
+    told = ", ".join("%s (%s)" % (one["to"], findings.CAUSES[one["cause"]]) for one in came)
+    first = "expected an upgrade to " + ", ".join(wanted) if wanted else "expected no upgrade"
+    why = ": " + case.stays_plain if case.stays_plain else ""
+    yield "%s; %s" % (first, "it was upgraded to " + told if came else "there was none" + why)
 
 
 # What a fetch that is refused has not, or has not done, and so is not looked at where it was to be read.

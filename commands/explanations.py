@@ -227,13 +227,13 @@ BEFORE_SENDING = UNLOADED + [
         "mixed-content.md#bad-ports-fetch-section-29-port-blocking", changes.other_port),
     Way("mixed/ip-address", "3", lambda c: c.is_upgradeable_address,
         "the page is secure, and {c.url}{c.where} is not: images, audio and video become https by themselves, but not where "
-        "the host is an IP address", "", "give the server a name; or {change}", MIXED, changes.ask_secure),
+        "the host is an IP address", "", "give the server a name; or {change}", MIXED, changes.ask_secure_or_upgrade),
     Way("mixed/top", "3", lambda c: c.is_embedded and not c.page_origin.startswith("https:"),
-        "the page at the top, {c.top_origin}, is secure, and {c.url}{c.where} is not: what is embedded may not be laxer", "",
-        "{change}", MIXED, changes.ask_secure),
+        "the page at the top, {c.top_origin}, is secure, and {c.url}{c.where} is not: what is embedded may not be "
+        "laxer{c.but_known}", "", "{change}{c.too_late}", MIXED, changes.ask_secure_or_upgrade),
     Way("mixed/page", "3", always,
-        "the page {c.page_origin} is secure, and {c.url}{c.where} is not, so nothing is sent to it", "",
-        "{change}{c.too_late}", MIXED, changes.ask_secure),
+        "the page {c.page_origin} is secure, and {c.url}{c.where} is not, so nothing is sent to it{c.but_known}", "",
+        "{change}{c.too_late}", MIXED, changes.ask_secure_or_upgrade),
     *POLICIES,
     Way("same-origin/known-host", "5", lambda c: c.is_known_host and not c.is_redirected,
         "the host is a known one (HSTS), so the URL becomes https, which is another origin than {c.page_origin}; and the mode "
@@ -362,8 +362,9 @@ LINKS = [
     Way("link/reset", "24", always, "the connection to {c.route} broke before the head of the answer was whole", "",
         "look into the server's log: it ended, or reset the connection", "../check-your-server.md#how-to-read-what-it-prints"),
     Way("head/no-server", "25", lambda c: not c.is_net and c.answer.server is None,
-        "the scenario has no server {c.request.origin}: {c.near_server}", "",
-        "add a server of this origin; scheme and port must be these", "../scenario.md#servers", changes.a_server),
+        "{c.asked_plain}the scenario has no server {c.request.origin}: {c.near_server}", "",
+        "add a server of this origin, with this scheme and this port{c.or_known}", "../scenario.md#servers",
+        changes.a_server),
     Way("head/nothing", "25", lambda c: c.link_problem == "nothing", "the server closed the connection without an answer", "",
         "look into the server's log", HEAD),
     Way("head/tls", "25", lambda c: c.link_problem == "tls", "the server speaks TLS there, and was asked in plain", "",
@@ -465,7 +466,7 @@ def way_lines():
     fetch."""
     for way in TABLE:
         condition = re.sub(r"\{c\.(?:\w+[.\[])*(\w+)\]?\}", lambda found: found.group(1).replace("_", " ").upper(),
-                           re.sub(r"\{c\.(?:where|back_where|next_differs)\}", "", way.condition).replace(
+                           re.sub(r"\{c\.(?:where|back_where|next_differs|but_known|asked_plain)\}", "", way.condition).replace(
                                "{c.the_answer}", "the answer"))
         yield "%s (%s): %s" % (way.name, way.results, condition)
 

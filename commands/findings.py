@@ -1,7 +1,9 @@
 """What a fetch or load shows, as data: the policies that it violated, the URLs that were made https, and the headers that
 a server has to send. bin/why --json prints it, as schema/why.schema.json has it, and bin/expect compares with it."""
-from commands.play_text import is_preflight
-from commands.scenario import joined
+from commands.urls import secure
+
+# What made a URL one of https, in words.
+CAUSES = {"hsts": "HSTS", "policy": "upgrade-insecure-requests", "mixed": "mixed content"}
 
 
 def violations(case):
@@ -11,25 +13,12 @@ def violations(case):
 
 
 def upgrades(case):
-    """The URLs at which https was asked in the place of http, in order: the command, or a redirect, had said http."""
-    found, said, is_known = [], joined(case.command.url, case.document["url"]), False
-    for request, answer in case.exchanges:
-        url = case.whole(request)
-        if is_upgrade(said, url) and not is_known:
-            found.append(url)
-        is_known = is_preflight(request)  # and the next request is of the same URL
-        if not is_known:
-            said = joined(answer.head.get("Location") or "", url) if answer and answer.head else ""
-    refused = [one.url for one in case.fetch.of("violation") if one.enforced]
-    if not case.exchanges and refused and is_upgrade(said, refused[0]):  # and nothing was sent
-        found.append(refused[0])
-    return found
-
-
-def is_upgrade(said, url):
-    return said.lower().startswith("http:") and url.startswith("https:")
+    """The URLs that became https, in order, and why."""
+    causes = [(hop.asked.partition("#")[0], case.upgrade_of(hop)) for hop in case.hops]
+    return [{"from": url, "to": secure(url), "cause": cause} for url, cause in causes if cause]
 
 
 def of(case):
     """All of it."""
-    return {"violations": violations(case), "upgraded": upgrades(case)}
+    found = upgrades(case)
+    return {"violations": violations(case), "upgraded": [one["to"] for one in found], "upgrades": found}

@@ -33,10 +33,11 @@ def joined(url, base):
 
 class Command:
     """A fetch or a load that a script made: `options` are its keys, with what stands for those that are missing; `url` is
-    its text after templates; `path` leads to it."""
+    its text after templates; `path` leads to it; `waited` is how many seconds the script had waited by then."""
 
-    def __init__(self, path, kind, given, last):
+    def __init__(self, path, kind, given, last, waited=0):
         self.path = path
+        self.waited = waited
         self.is_load = kind == "load"
         self.options = {**FETCH, **given} if kind == "fetch" else load_options(given)
         self.url = filled(given["url"], last)
@@ -95,6 +96,7 @@ class Walk:
     def __init__(self, script, path):
         self.last = None
         self.started = 0
+        self.waited = 0
         self.ahead = self.commands(script, path)
 
     def step(self):
@@ -108,7 +110,9 @@ class Walk:
             own = path + [index]
             kind = next((word for word in ("fetch", "load") if word in command), None)
             if kind:
-                yield Command(own + [kind], kind, command[kind], self.last)
+                yield Command(own + [kind], kind, command[kind], self.last, self.waited)
+            elif "wait" in command:
+                self.waited += command["wait"]
             elif "repeat" in command:
                 for _ in range(command["repeat"]):
                     if self.started > MOST_COMMANDS:

@@ -108,8 +108,8 @@ def changes_of(case):
 
 
 def upgraded(case):
-    urls = findings.upgrades(case)
-    return ["upgraded to " + ", ".join(map(shown, urls))] if urls else []
+    found = ["%s (%s)" % (shown(one["to"]), findings.CAUSES[one["cause"]]) for one in findings.upgrades(case)]
+    return ["upgraded to " + ", ".join(found)] if found else []
 
 
 def reported(case):
