@@ -89,15 +89,15 @@ class Said:
     def __init__(self, data, is_net, patience):
         text, self.scenario, self.told = played(data, is_net, patience)
         places, found = json_text.Places(text), doubts.doubts(self.scenario, self.told.play, is_net)
-        self.warnings = [(*places.of(at), sentence) for at, sentence in found]
+        self.warnings = [(*places.of(one.at), one) for one in found]
         self.answer_warnings = lints.of_answers(self.told) if is_net else []
 
     def data(self):
         """As JSON has it; schema/why.schema.json says how."""
         lines = verdicts.summaries(self.told)
         return {
-            "warnings": [dict(zip(("line", "column", "sentence"), warning)) for warning in self.warnings]
-            + [dict(zip(("url", "header", "sentence"), warning)) for warning in self.answer_warnings],
+            "warnings": [{"line": line, "column": column, **data_of(one)} for line, column, one in self.warnings]
+            + [dict(zip(("url", "header", "sentence", "lint"), warning)) for warning in self.answer_warnings],
             "fetches": [{**one, **findings.of(case), "summary": line}
                         for one, case, line in zip(self.told.data(), self.told.cases, lines)],
             "policies_in_all": [{"document": number, "policy": one.policy, "enforced": one.enforced, "value": one.value}
@@ -106,11 +106,18 @@ class Said:
     def write(self, name):
         """The verdicts, the warnings, and the play with what is said between its lines."""
         streams.write_lines("# " + line for line in verdicts.heading(self.told))
-        streams.write_lines("# warning: %s:%d:%d: %s" % (name, *warning) for warning in self.warnings)
-        streams.write_lines("# warning: %s: %s: %s" % warning for warning in self.answer_warnings)
+        streams.write_lines("# warning: %s:%d:%d: %s" % (name, line, column, one.told)
+                            for line, column, one in self.warnings)
+        streams.write_lines("# warning: %s: %s: %s (%s)" % warning for warning in self.answer_warnings)
         for line, own in self.told.pieces():
             streams.write_play(line)
             streams.write_lines(own)
+
+
+def data_of(doubt):
+    """A warning as JSON has it: of a lint its name, the header and the URL too."""
+    more = {"lint": doubt.lint, "header": doubt.header, "url": doubt.url} if doubt.lint else {}
+    return {"sentence": doubt.sentence, **more}
 
 
 def why(self, name, data, given):

@@ -173,9 +173,9 @@ def warnings(text, scenario, told, name, is_net):
     """Lines, and of each whether it tells a fault: a note of what a play does not look at is none."""
     places = json_text.Places(text)
     for place, finding in lints.in_scenario(scenario):
-        yield "warning: %s:%d:%d: %s" % (name, *places.of(place), finding.sentence), not finding.lint.is_note
+        yield "warning: %s:%d:%d: %s" % (name, *places.of(place), finding.told()), not finding.lint.is_note
     for one in lints.of_answers(told) if is_net else []:
-        yield "warning: %s: %s: %s" % one, True
+        yield "warning: %s: %s: %s (%s)" % one, True
 
 
 def fetch_of(key):
@@ -191,7 +191,7 @@ def unnamed(expect, told):
     are_many = len(told.play.documents) > 1
     for case in left[:MOST_UNNAMED]:
         yield f'warning: {verdicts.named(case, are_many)}: the test does not name it: ' \
-              f'add "{verdicts.name_of(case, are_many)}": "{case.result.short()}", if that is meant'
+              f'add "{verdicts.name_of(case.fetch, are_many)}": "{case.result.short()}", if that is meant'
     if len(left) > MOST_UNNAMED:
         yield f"warning: {len(left) - MOST_UNNAMED} more fetches and loads are not named: add them"
 

@@ -68,12 +68,12 @@ def line_of(case, is_one_of_many):
 def named(case, is_one_of_many):
     """Its name, and what it asks for."""
     kind = " (%s)" % case.fetch.load if case.fetch.load else ""
-    return "%s%s, %s %s" % (name_of(case, is_one_of_many), kind, method_of(case), shown(url_of(case)))
+    return "%s%s, %s %s" % (name_of(case.fetch, is_one_of_many), kind, method_of(case), shown(url_of(case)))
 
 
-def name_of(case, is_one_of_many):
+def name_of(fetch, is_one_of_many):
     """As a test names it."""
-    return ("document %d " % case.fetch.document.number if is_one_of_many else "") + case.fetch.name
+    return ("document %d " % fetch.document.number if is_one_of_many else "") + fetch.name
 
 
 def method_of(case):

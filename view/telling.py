@@ -27,8 +27,8 @@ def lines(data, text):
     all_told = told.scripted(scenario, play_text.read(text))
     for line in verdicts.heading(all_told):
         yield "# " + " ".join(line.splitlines())
-    for place, sentence in doubts.doubts(scenario, all_told.play, False):
-        yield "# warning: line %d of the scenario: %s" % (source.count("\n", 0, place) + 1, sentence)
+    for one in doubts.doubts(scenario, all_told.play, False):
+        yield "# warning: line %d of the scenario: %s" % (source.count("\n", 0, one.at) + 1, one.told)
     behind = [own for _, own in all_told.pieces()]
     for line, own in zip(all_told.play.lines, behind):
         yield line
