@@ -215,6 +215,8 @@ HOSTS = {
         hsts=[{"host": "www.shop.test", "subdomains": False, "until": 10}]),
     "a known host, and mixed content": scenario(
         fetch("http://api.test/x"), [rule(200, [OK])], hsts=[{"host": "api.test", "subdomains": False, "until": 10}]),
+    "a URL that is upgraded to no server": scenario(
+        fetch("http://api.test/x"), [rule(200, [OK])], "http://api.test", headers=[[POLICY, "upgrade-insecure-requests"]]),
     "an own address that is upgraded": scenario(
         fetch("http://127.0.0.1:8080/x"), [rule(200, [OK])], "https://127.0.0.1:8080",
         headers=[[POLICY, "upgrade-insecure-requests"]]),

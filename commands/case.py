@@ -22,6 +22,8 @@ MOST_REDIRECTS = 20
 # Schemes that a browser loads by itself, and this engine does not.
 LOCAL = ("data", "blob")
 SOCKETS = ("ws", "wss")
+# What made a URL one of https, in words.
+CAUSES = {"hsts": "HSTS", "policy": "upgrade-insecure-requests", "mixed": "mixed content"}
 # A policy that a request violates: its number and disposition, the effective directive, the URL that it was asked of, and
 # whether a redirect led there, or it was that of the response.
 Violation = namedtuple("Violation", "policy enforced directive url redirected at_response")
@@ -272,6 +274,11 @@ class Case:
     def varies(self):
         """Whether pages of other origins ask for the URL of the last request too, or may."""
         return self.is_net or len(self.scenario.askers.get((self.request.origin, self.request.target), ())) > 1
+
+    @property
+    def and_others(self):
+        """That an origin which is allowed now may ask on."""
+        return "; pages of the other origins go on to get theirs" if self.varies else ""
 
     @property
     def the_answer(self):
@@ -690,7 +697,11 @@ class Case:
         return "; " + self.stays_plain if self.stays_plain.startswith("its host is") else ""
 
     @property
-    def asked_plain(self):
+    def why_scheme(self):
+        """Why https was asked, or http, where that may not be what was meant."""
+        cause = self.upgrade_of(self.hops[-1])
+        if cause:
+            return "the URL became https (%s), and " % CAUSES[cause]
         return self.stays_plain + "; so http was asked, and " if self.stays_plain else ""
 
     @property

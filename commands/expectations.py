@@ -3,9 +3,10 @@ import functools
 import os
 import re
 
-from commands import (asking, edits, findings, json_text, lints, play_text, policy_questions, refusals, results, running,
+from commands import (asking, edits, findings, json_text, lints, notes, play_text, policy_questions, refusals, results, running,
                       streams, verdicts)
 from commands.asking import Wrong
+from commands.case import CAUSES
 from commands.explanations import TABLE, explain, lines_of
 from commands.schema import Schema
 
@@ -366,10 +367,11 @@ def look_at_upgrades(case, wanted):
     if len(came) == len(wanted) and all(one in (own["to"], own["to"] + " " + own["cause"])
                                         for one, own in zip(wanted, came)):
         return
-    told = ", ".join("%s (%s)" % (one["to"], findings.CAUSES[one["cause"]]) for one in came)
+    told = ", ".join("%s (%s)" % (one["to"], CAUSES[one["cause"]]) for one in came)
     first = "expected an upgrade to " + ", ".join(wanted) if wanted else "expected no upgrade"
     why = ": " + case.stays_plain if case.stays_plain else ""
     yield "%s; %s" % (first, "it was upgraded to " + told if came else "there was none" + why)
+    yield from (note for note in case.notes if note.startswith(notes.IN_A_BROWSER))
 
 
 # What a fetch that is refused has not, or has not done, and so is not looked at where it was to be read.

@@ -89,7 +89,7 @@ CORS_CHECK = [
         CORS, changes.cors),
     Way("cors/other-origin", "7 12", lambda c: c.allowed_origin != c.origin,
         "{c.the_answer} allows `{c.allowed_origin}`, and the request is of `{c.origin}`", ALLOW_ORIGIN,
-        "{change}, where the server trusts this origin{c.and_vary}", CORS, changes.cors),
+        "{change}, where the server trusts this origin{c.and_vary}{c.and_others}", CORS, changes.cors),
     Way("cors/credentials-absent", "7 12", lambda c: c.allowed_credentials is None,
         "the request has credentials, and {c.the_answer} has no Access-Control-Allow-Credentials", ALLOW_CREDENTIALS,
         "{change}", CORS, changes.cors_or_without_credentials),
@@ -362,7 +362,7 @@ LINKS = [
     Way("link/reset", "24", always, "the connection to {c.route} broke before the head of the answer was whole", "",
         "look into the server's log: it ended, or reset the connection", "../check-your-server.md#how-to-read-what-it-prints"),
     Way("head/no-server", "25", lambda c: not c.is_net and c.answer.server is None,
-        "{c.asked_plain}the scenario has no server {c.request.origin}: {c.near_server}", "",
+        "{c.why_scheme}the scenario has no server {c.request.origin}: {c.near_server}", "",
         "add a server of this origin, with this scheme and this port{c.or_known}", "../scenario.md#servers",
         changes.a_server),
     Way("head/nothing", "25", lambda c: c.link_problem == "nothing", "the server closed the connection without an answer", "",
@@ -466,7 +466,7 @@ def way_lines():
     fetch."""
     for way in TABLE:
         condition = re.sub(r"\{c\.(?:\w+[.\[])*(\w+)\]?\}", lambda found: found.group(1).replace("_", " ").upper(),
-                           re.sub(r"\{c\.(?:where|back_where|next_differs|but_known|asked_plain)\}", "", way.condition).replace(
+                           re.sub(r"\{c\.(?:where|back_where|next_differs|but_known|why_scheme)\}", "", way.condition).replace(
                                "{c.the_answer}", "the answer"))
         yield "%s (%s): %s" % (way.name, way.results, condition)
 

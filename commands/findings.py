@@ -2,9 +2,6 @@
 a server has to send. bin/why --json prints it, as schema/why.schema.json has it, and bin/expect compares with it."""
 from commands.urls import secure
 
-# What made a URL one of https, in words.
-CAUSES = {"hsts": "HSTS", "policy": "upgrade-insecure-requests", "mixed": "mixed content"}
-
 
 def violations(case):
     """All that were told, in order."""

@@ -9,7 +9,8 @@ UPGRADES = {
     "mixed": "a secure page asks for images, audio and video over https (mixed content)",
 }
 # As docs/BROWSERS.md has it measured.
-LOOPBACK = ("in a browser %s may stay http: Chromium and Firefox leave `http://127.0.0.1` alone, where the standard "
+IN_A_BROWSER = "in a browser "
+LOOPBACK = (IN_A_BROWSER + "%s may stay http: Chromium and Firefox leave `http://127.0.0.1` alone, where the standard "
             "upgrades it (docs/BROWSERS.md)")
 
 

@@ -1,6 +1,7 @@
 """The verdict on a fetch or a load, in words: the line of bin/why, with what it asks for and what to change, and the
 line and the status of bin/ask, which answers whether the page would read it."""
 from commands import edits, findings, results
+from commands.case import CAUSES
 from commands.scenario import joined
 
 MOST = 100  # fetches and loads whose verdicts stand above a play
@@ -108,7 +109,7 @@ def changes_of(case):
 
 
 def upgraded(case):
-    found = ["%s (%s)" % (shown(one["to"]), findings.CAUSES[one["cause"]]) for one in findings.upgrades(case)]
+    found = ["%s (%s)" % (shown(one["to"]), CAUSES[one["cause"]]) for one in findings.upgrades(case)]
     return ["upgraded to " + ", ".join(found)] if found else []
 
 
