@@ -216,7 +216,8 @@ HOSTS = {
     "a known host, and mixed content": scenario(
         fetch("http://api.test/x"), [rule(200, [OK])], hsts=[{"host": "api.test", "subdomains": False, "until": 10}]),
     "a URL that is upgraded to no server": scenario(
-        fetch("http://api.test/x"), [rule(200, [OK])], "http://api.test", headers=[[POLICY, "upgrade-insecure-requests"]]),
+        fetch("http://api.test/x"), [rule(200, [OK])], "http://api.test",
+        headers=[[POLICY, "upgrade-insecure-requests"]]),
     "an own address that is upgraded": scenario(
         fetch("http://127.0.0.1:8080/x"), [rule(200, [OK])], "https://127.0.0.1:8080",
         headers=[[POLICY, "upgrade-insecure-requests"]]),
@@ -225,7 +226,8 @@ OTHERS = {
     "a star for a request with a cookie": scenario(
         fetch(**JSON, **INCLUDE), [rule(404, method="OPTIONS"), rule(200, [STAR])]),
     "headers at the wrong answer": scenario(fetch(**JSON, **INCLUDE), [
-        rule(204, [OK], method="OPTIONS"), rule(200, [OK, TRUE, methods("PUT"), names("content-type, authorization")])]),
+        rule(204, [OK], method="OPTIONS"),
+        rule(200, [OK, TRUE, methods("PUT"), names("content-type, authorization")])]),
     "a star over Authorization, with credentials": scenario(
         fetch(**SECRET, **INCLUDE), allow(TRUE, names("*"))),
     "two pages that ask": {**scenario(fetch(), [rule(200, [OTHER])]), "documents": [

@@ -118,7 +118,8 @@ def origin_null(c):
     """The page asks for the last URL itself, and is allowed there; or `*`, where no credentials go along."""
     names = guards.unsafe_names(guards.kept(c.command.headers, "cors"))
     own = None if is_preflight(c.request) else c.head
-    needs = Needs(c.asked_url, c.page_origin, c.includes, c.method, names, c.preflight_head, own, c.has_listener, c.varies)
+    needs = Needs(c.asked_url, c.page_origin, c.includes, c.method, names, c.preflight_head, own,
+                  c.has_listener, c.varies)
     itself = ask_for(c.asked_url, c) + ([] if origin_of(c.asked_url) == c.page_origin else needs.all_edits())
     star = [{**edit, "value": "*"} if edit["value"] == "null" else edit for edit in cors(c)[0]]
     is_loop = c.asked_url in [hop.sent for hop in c.hops[:-1]] or c.comes_back
@@ -135,7 +136,8 @@ def in_cors(c):
     """The page asks in mode cors, or with `crossorigin`, for the last URL; and the server allows it."""
     names = guards.unsafe_names(guards.kept(c.command.headers, "cors"))
     includes = c.includes and not c.command.is_load
-    needs = Needs(c.asked_url, c.page_origin, includes, c.method, names, c.preflight_head, c.head, c.has_listener, c.varies)
+    needs = Needs(c.asked_url, c.page_origin, includes, c.method, names, c.preflight_head, c.head,
+                  c.has_listener, c.varies)
     mode = edits.request("crossorigin", "anonymous") if c.command.is_load else edits.request("mode", "cors")
     return [(ask_for(c.asked_url, c) if len(c.chain) > 1 else []) + [mode] + needs.all_edits()]
 

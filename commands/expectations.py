@@ -3,8 +3,8 @@ import functools
 import os
 import re
 
-from commands import (asking, edits, findings, json_text, lints, notes, play_text, policy_questions, refusals, results, running,
-                      streams, verdicts)
+from commands import (asking, edits, findings, json_text, lints, notes, play_text, policy_questions, refusals,
+                      results, running, streams, verdicts)
 from commands.asking import Wrong
 from commands.case import CAUSES
 from commands.explanations import TABLE, explain, lines_of

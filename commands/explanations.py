@@ -118,7 +118,8 @@ PREFLIGHTS = [
         ALLOW_METHODS, "{change}", PREFLIGHT, changes.cors),
     Way("preflight/method-star-with-credentials", "10", lambda c: "*" in c.methods and c.includes,
         "Access-Control-Allow-Methods is `*`, which covers no method of a request with credentials", ALLOW_METHODS,
-        "list the method beside it, since it counts for requests without credentials: {change}", PREFLIGHT, changes.cors),
+        "list the method beside it, since it counts for requests without credentials: {change}", PREFLIGHT,
+        changes.cors),
     Way("preflight/method-in-another-case", "10", lambda c: c.same_method != "",
         "Access-Control-Allow-Methods has `{c.same_method}`, and the request's method is `{c.method}`: the case counts",
         ALLOW_METHODS, "{change}", PREFLIGHT, changes.method_in_another_case),
@@ -137,7 +138,8 @@ PREFLIGHTS = [
         ALLOW_HEADERS, "{change}", PREFLIGHT, changes.cors),
     Way("preflight/header-star-with-credentials", "11", lambda c: "*" in c.names and c.includes,
         "Access-Control-Allow-Headers is `*`, which covers no header of a request with credentials", ALLOW_HEADERS,
-        "list the names beside it, since it counts for requests without credentials: {change}", PREFLIGHT, changes.cors),
+        "list the names beside it, since it counts for requests without credentials: {change}", PREFLIGHT,
+        changes.cors),
     Way("preflight/header-not-listed", "11", always,
         "Access-Control-Allow-Headers does not have {c.result.detail}", ALLOW_HEADERS,
         "list it beside what is there: {change}", PREFLIGHT, changes.cors),
@@ -294,7 +296,8 @@ ANSWERS = [
         changes.header("Content-Type", lambda c: c.right_type)),
     Way("type/nosniff", "21", always,
         "the answer says `nosniff`, and its type is `{c.essence}`, which a {c.kind} may not have", "Content-Type",
-        "{change}, once: of several the last counts{c.why_status}", TYPES, changes.header("Content-Type", lambda c: c.right_type)),
+        "{change}, once: of several the last counts{c.why_status}", TYPES,
+        changes.header("Content-Type", lambda c: c.right_type)),
     Way("integrity/opaque", "22", lambda c: c.is_opaque,
         "the response is opaque, since it is of another origin and the mode is no-cors: there is no body to match", "",
         "{change}", BODY, changes.in_cors),
@@ -461,13 +464,17 @@ ASKED = {
 TABLE = DIRECT + CORS_CHECK + PREFLIGHTS + BEFORE_SENDING + ANSWERS + LINKS + REQUESTS + SEEN
 
 
+# Parts of conditions that are there for some fetches alone, and an answer that stands for that to a preflight too.
+SOMETIMES = re.compile(r"\{c\.(?:where|back_where|next_differs|but_known|why_scheme)\}")
+
+
 def way_lines():
     """Each way in a line: its name, its results, and its condition, in which words in capitals stand for what is told of the
     fetch."""
     for way in TABLE:
-        condition = re.sub(r"\{c\.(?:\w+[.\[])*(\w+)\]?\}", lambda found: found.group(1).replace("_", " ").upper(),
-                           re.sub(r"\{c\.(?:where|back_where|next_differs|but_known|why_scheme)\}", "", way.condition).replace(
-                               "{c.the_answer}", "the answer"))
+        text = SOMETIMES.sub("", way.condition).replace("{c.the_answer}", "the answer")
+        condition = re.sub(r"\{c\.(?:\w+[.\[])*(\w+)\]?\}",
+                           lambda found: found.group(1).replace("_", " ").upper(), text)
         yield "%s (%s): %s" % (way.name, way.results, condition)
 
 

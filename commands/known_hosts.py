@@ -1,5 +1,5 @@
-"""Which hosts are known (HSTS) to a document, as far as the scenario and its own answers tell it, and why an http URL does
-not become one of https."""
+"""Which hosts are known (HSTS) to a document, as far as the scenario and its own answers tell it, and why an http URL
+does not become one of https."""
 import time
 from collections import ChainMap, namedtuple
 
@@ -80,9 +80,9 @@ class Book:
                 if parent else "")
 
     def of_term(self, names, now):
-        ended = next((name for name in names if self.covers(name, names[0]) and 0 < self.hosts[name].until <= now), None)
-        return ("%s was a known host (HSTS) until second %d, and it is second %d" % (ended, self.hosts[ended].until, now)
-                if ended else "")
+        ended = next((name for name in names if self.covers(name, names[0]) and 0 < self.hosts[name].until <= now), "")
+        until = self.hosts[ended].until if ended else 0
+        return "%s was a known host (HSTS) until second %d, and it is second %d" % (ended, until, now) if ended else ""
 
     def of_field(self, names):
         name = next((name for name in names if name in self.ignored), None)

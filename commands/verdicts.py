@@ -92,7 +92,7 @@ def shown(url):
 
 
 def outcome(case):
-    """What it comes to, why, and of one that is refused what to change, where that does not follow in lines of its own."""
+    """What it comes to, why, and of one that is refused what to change, as far as no line `in all` says it."""
     came = told_of(case) if case.result.type == "loaded" else "%s, %s" % (word_of(case), told_of(case))
     is_to_change = case.explanation is not None and case.result.is_refused()
     return "; ".join([came, *changes_of(case)]) if is_to_change else came
