@@ -504,7 +504,8 @@ class Explanation:
         self.value = c.get(self.header) if self.header else None
         self.misspelt = misspelt(c, self.header) if self.header and self.value is None else None
         if is_asked and self.header and self.value is None and c.own_head and c.own_head.get(self.header) is not None:
-            self.condition += ", which stands with the answer to %s alone" % c.method
+            absent = "has no " + self.header
+            self.condition = self.condition.replace(absent, "%s (that to %s has it)" % (absent, c.method))
         self.needs = c.needs_told.by_method() if is_asked else {}
         self.exposing = changes.expose_too(c) if is_of_cors else []
         lines = c.needs_told.lines() if is_asked else []

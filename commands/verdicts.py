@@ -45,10 +45,10 @@ def summaries(told):
     return [line_of(case, len(told.play.documents) > 1) for case in told.cases]
 
 
-def heading(told):
-    """What stands above a play: all lines, or as many as are soon read."""
-    more = len(told.cases) - MOST
-    found = lines(told.cases[:MOST], len(told.play.documents) > 1)
+def heading(told, most=MOST):
+    """What stands above a play: all lines, or those of as many fetches and loads as are soon read."""
+    more = len(told.cases) - most
+    found = lines(told.cases[:most], len(told.play.documents) > 1)
     return found + (["and %d more, which --brief lists" % more] if more > 0 else [])
 
 

@@ -4,6 +4,7 @@ from commands import asking, doubts, play_text, told, verdicts
 from commands.scenario import Scenario
 
 LONGEST = 262144  # bytes of a scenario or of a play: of a longer one nothing is said
+MOST = 20  # verdicts above a diagram
 
 
 def told_text(data, text):
@@ -25,7 +26,7 @@ def lines(data, text):
     source, root = asking.read(data)
     scenario = Scenario(root)
     all_told = told.scripted(scenario, play_text.read(text))
-    for line in verdicts.heading(all_told):
+    for line in verdicts.heading(all_told, MOST):
         yield "# " + " ".join(line.splitlines())
     for one in doubts.doubts(scenario, all_told.play, False):
         yield "# warning: line %d of the scenario: %s" % (source.count("\n", 0, one.at) + 1, one.told)
