@@ -479,8 +479,8 @@ def way_lines():
 
 
 class Explanation:
-    """A way that holds of a case, with its texts filled in. `edits` are the change as data (edits.py), and `others` what would do
-    in its place."""
+    """A way that holds of a case, with its texts filled in. `edits` are the change as data (edits.py), and `others` what
+    would do in its place, which `change` says too, and `first_change` does not."""
 
     def __init__(self, way, c):
         condition, change, rule = way.condition, way.change, way.rule
@@ -497,6 +497,7 @@ class Explanation:
         told = edits.sentence(found)
         change = change if told else change.replace("{change}; or ", "")
         self.change = change.format(c=c, change=told or NOTHING)
+        self.first_change = change.format(c=c, change=edits.sentence(found[:1]) or NOTHING)
         self.edits = found[0] if found else []
         self.others = found[1:]
         self.rule = "docs/rules/" + rule if not rule.startswith("../") else "docs/" + rule[3:]
@@ -522,7 +523,7 @@ class Explanation:
         return lines + ["change: " + self.change, *in_all, "rule: %s (%s)" % (self.rule, self.way)]
 
     def data(self):
-        return dict(self.__dict__)
+        return {name: value for name, value in self.__dict__.items() if name != "first_change"}
 
 
 class PolicyExplanation(Explanation):

@@ -99,13 +99,13 @@ def outcome(case):
 
 
 def changes_of(case):
-    """What to change: of what this engine does not load, in each policy that refuses it; where the lines `in all` say
+    """What to change, by the first way: of what this engine does not load, in each policy that refuses it; where the lines `in all` say
     it, what is to be changed at the request besides."""
     if case.explanation.needs:
         of_request = [edit for edit in case.explanation.edits if edit["at"] == "request"]
         return [edits.phrase(of_request)] if of_request else []
-    of_policies = [policy.change for policy in case.policies_told if policy.enforced]
-    return of_policies if case.is_unloaded and of_policies else [case.explanation.change]
+    of_policies = [policy.first_change for policy in case.policies_told if policy.enforced]
+    return of_policies if case.is_unloaded and of_policies else [case.explanation.first_change]
 
 
 def upgraded(case):
