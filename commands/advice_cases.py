@@ -210,6 +210,9 @@ HOSTS = {
         [load("image", "/i.png"), fetch(UNDER + "/x")],
         [rule(200, [["Strict-Transport-Security", "max-age=600; includeSubDomains"]])], "http://shop.test", page=PLAIN,
         servers=[{"origin": UNDER, "rules": [rule(200, [STAR])]}]),
+    "a host that is forgotten": scenario(
+        [load("image", PAGE + "/i.png"), fetch("/x")], [rule(200, [["Strict-Transport-Security", "max-age=0"]])], PAGE,
+        page=PLAIN, hsts=KNOWN["hsts"], servers=[{"origin": "http://shop.test", "rules": [rule(200)]}]),
     "a term that has ended": scenario(
         [{"wait": 20}, fetch(UNDER + "/x")], [rule(200, [STAR])], UNDER, page=PLAIN,
         hsts=[{"host": "www.shop.test", "subdomains": False, "until": 10}]),
@@ -223,6 +226,7 @@ HOSTS = {
         headers=[[POLICY, "upgrade-insecure-requests"]]),
 }
 OTHERS = {
+    "an answer behind a preflight": scenario(fetch(**PUT), [rule(204, [OK, methods("PUT")], method="OPTIONS"), rule()]),
     "a star for a request with a cookie": scenario(
         fetch(**JSON, **INCLUDE), [rule(404, method="OPTIONS"), rule(200, [STAR])]),
     "headers at the wrong answer": scenario(fetch(**JSON, **INCLUDE), [

@@ -296,6 +296,12 @@ class Case:
         return heads[-1] if heads else self.head_of("OPTIONS")
 
     @property
+    def preflighted_url(self):
+        """The URL of the last request, where its preflight was answered; else None."""
+        asked = [self.whole(request) for request, _ in self.exchanges[:-1] if is_preflight(request)]
+        return self.asked_url if asked and asked[-1] == self.asked_url else None
+
+    @property
     def is_page_in_small(self):
         """Whether the page asks by a method in small letters that the server lists in capitals."""
         return self.same_method == self.method.upper() != ""

@@ -102,18 +102,19 @@ def place(edit):
     return edit["at"], edit.get("method"), edit.get("url")
 
 
-def sentence(changes):
-    """All ways to change it, each of which is a list of edits."""
-    return "; or ".join(filter(None, map(phrase, changes)))
+def sentence(changes, asked=None):
+    """All ways to change it, each of which is a list of edits. `asked` is a URL whose preflight was answered: of the
+    answer to its request is said which one it is."""
+    return "; or ".join(filter(None, (phrase(one, asked) for one in changes)))
 
 
-def phrase(edits):
+def phrase(edits, asked=None):
     """One of them. Edits of one place stand together."""
-    parts, before = [], None
+    parts, before = [], asked
     for where, group in groupby(edits, place):
         group = list(group)
         parts.append(PHRASES[where[0]](group, before))
-        before = group[0]
+        before = group[0].get("url", "")
     return ", and ".join(parts)
 
 
@@ -135,10 +136,10 @@ def of_answer(edits, before):
 
 
 def answer_named(edits, before):
-    """Which answer it is, where that is not the one that was just told of."""
+    """Which answer it is, where another one was told of; `before` is the URL of that, or None."""
     if before is None and all(edit.get("set") != "Location" for edit in edits):
         return ""
-    is_same = before is not None and before.get("url") == edits[0]["url"]
+    is_same = before == edits[0]["url"]
     return " with the answer to %s%s" % (edits[0]["method"], "" if is_same else " at " + edits[0]["url"])
 
 

@@ -69,7 +69,7 @@ CORS_CHECK = [
         ALLOW_ORIGIN, "{change}; then look why it is {c.status}", PREFLIGHT, changes.cors),
     Way("cors/absent-on-error", "12", lambda c: c.allowed_origin is None and c.status >= 400,
         "the answer is {c.status}, and has no Access-Control-Allow-Origin", ALLOW_ORIGIN,
-        "{change} with errors too: many servers, logins and proxies leave CORS headers out there; then look why it "
+        "{change}, with errors too: many servers, logins and proxies leave CORS headers out there; then look why it "
         "is {c.status}", CORS, changes.cors),
     Way("cors/absent-on-redirect", "12", lambda c: c.allowed_origin is None and c.is_redirect,
         "the answer redirects ({c.status}) to {c.whereto}{c.next_differs}, and has no Access-Control-Allow-Origin",
@@ -479,8 +479,8 @@ def way_lines():
 
 
 class Explanation:
-    """A way that holds of a case, with its texts filled in. `edits` are the change as data (edits.py), and `others` what
-    would do in its place, which `change` says too, and `first_change` does not."""
+    """A way that holds of a case, with its texts filled in. `edits` are the change as data (edits.py), and `others`
+    what would do in its place, which `change` says too, and `first_change` does not."""
 
     def __init__(self, way, c):
         condition, change, rule = way.condition, way.change, way.rule
@@ -494,10 +494,11 @@ class Explanation:
         self.condition = condition.format(c=c)
         if c.verdict == "refused":  # by a policy, whatever this engine loads
             self.condition = self.condition.removeprefix("no verdict: ")
-        told = edits.sentence(found)
+        asked = c.preflighted_url
+        told = edits.sentence(found, asked)
         change = change if told else change.replace("{change}; or ", "")
         self.change = change.format(c=c, change=told or NOTHING)
-        self.first_change = change.format(c=c, change=edits.sentence(found[:1]) or NOTHING)
+        self.first_change = change.format(c=c, change=edits.sentence(found[:1], asked) or NOTHING)
         self.edits = found[0] if found else []
         self.others = found[1:]
         self.rule = "docs/rules/" + rule if not rule.startswith("../") else "docs/" + rule[3:]

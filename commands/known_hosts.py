@@ -15,7 +15,8 @@ Known = namedtuple("Known", "subdomains until")
 
 def named(scenario):
     """The hosts that a scenario names."""
-    return {one["host"]: Known(one["subdomains"], one["until"]) for one in scenario.data.get("hsts", [])}
+    hosts = scenario.data.get("hsts", [])
+    return {one["host"]: Known(one["subdomains"], one["until"]) for one in hosts if one["until"]}
 
 
 def names_above(host):
@@ -45,7 +46,10 @@ class Book:
         return found
 
     def note(self, host, age, subdomains, _, at):
-        self.hosts[host] = Known(subdomains == "sub", int(at) + int(age) if int(age) else 0)
+        if int(age):
+            self.hosts[host] = Known(subdomains == "sub", int(at) + int(age))
+        elif host in self.hosts:
+            self.hosts[host] = self.hosts[host]._replace(until=0)
         self.ignored.pop(host, None)
 
     def look_at_fields(self, case):
@@ -80,9 +84,12 @@ class Book:
                 if parent else "")
 
     def of_term(self, names, now):
-        ended = next((name for name in names if self.covers(name, names[0]) and 0 < self.hosts[name].until <= now), "")
-        until = self.hosts[ended].until if ended else 0
-        return "%s was a known host (HSTS) until second %d, and it is second %d" % (ended, until, now) if ended else ""
+        ended = next((name for name in names if self.covers(name, names[0]) and self.hosts[name].until <= now), None)
+        if ended is None:
+            return ""
+        until = self.hosts[ended].until
+        how = "until second %d, and it is second %d" % (until, now) if until else "until an answer said max-age=0"
+        return "%s was a known host (HSTS) %s" % (ended, how)
 
     def of_field(self, names):
         name = next((name for name in names if name in self.ignored), None)

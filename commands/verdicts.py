@@ -63,7 +63,8 @@ def in_all(case):
 
 
 def line_of(case, is_one_of_many):
-    return "%s: %s" % (named(case, is_one_of_many), "; ".join([outcome(case), *upgraded(case), *reported(case)]))
+    parts = [outcome(case), *upgraded(case), *plain(case), *reported(case)]
+    return "%s: %s" % (named(case, is_one_of_many), "; ".join(parts))
 
 
 def named(case, is_one_of_many):
@@ -99,8 +100,8 @@ def outcome(case):
 
 
 def changes_of(case):
-    """What to change, by the first way: of what this engine does not load, in each policy that refuses it; where the lines `in all` say
-    it, what is to be changed at the request besides."""
+    """What to change, by the first way. Where the lines `in all` say it, that of the request alone; of what this engine
+    does not load, that of each policy that refuses it."""
     if case.explanation.needs:
         of_request = [edit for edit in case.explanation.edits if edit["at"] == "request"]
         return [edits.phrase(of_request)] if of_request else []
@@ -111,6 +112,12 @@ def changes_of(case):
 def upgraded(case):
     found = ["%s (%s)" % (shown(one["to"]), CAUSES[one["cause"]]) for one in findings.upgrades(case)]
     return ["upgraded to " + ", ".join(found)] if found else []
+
+
+def plain(case):
+    """Why a URL stays http, where what it comes to does not say it."""
+    told = condition_of(case)
+    return ["not upgraded: " + one for one in dict.fromkeys(case.plain_reasons) if one and one not in told]
 
 
 def reported(case):
