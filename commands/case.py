@@ -327,6 +327,24 @@ class Case:
         return csp.numbered(self.document.get("headers", []))
 
     @cached_property
+    def mended(self):
+        """The directives of each policy, with what is warned of in it mended; what is advised is built on them."""
+        return [csp.directives(one.text) for one in self.scenario.mended_policies(self.fetch.document.number)]
+
+    @property
+    def words_to_change(self):
+        """The name of the directive of the violated policy that is to be changed, and its words, mended."""
+        name, words = csp.deciding(self.mended[self.violated.policy], self.violated.directive)
+        return (name, words) if name in self.mended[self.violated.policy] else self.directive
+
+    def under(self, policies):
+        """The same case, where the page has these policies: for each its disposition, and its directives."""
+        case = copy.copy(self)
+        case.policies, case.mended = policies, [policy for _, policy in policies]
+        case.violations = distinct(case.would_violate())
+        return case
+
+    @cached_property
     def violations(self):
         """Each violation that was told, once for each policy and URL; of a URL that is not loaded here those that were."""
         found, hops, number = [], self.hops, 0
@@ -342,15 +360,32 @@ class Case:
         return distinct(self.would_violate() if self.is_unloaded and not self.is_mixed_socket else found)
 
     def would_violate(self):
-        """The policies that would refuse the URL."""
-        effective = csp.EFFECTIVE[self.kind]
-        asked = self.asked_of(Violation(0, True, effective, self.url, False, False))
-        found = []
-        for number, (enforced, policy) in enumerate(self.policies):
-            name, words = csp.deciding(policy, effective)
-            if name in policy and not csp.passes(words, asked):
-                found.append(Violation(number, enforced, effective, self.url, False, False))
-        return found
+        """The policies that refuse a URL of the chain, or report it."""
+        return [one for one in self.questions() if self.is_violation(one)]
+
+    def questions(self):
+        """Of each URL of the chain each policy, as a violation that there may be. No enforced one is asked of what
+        another rule refuses before."""
+        effective, hops = csp.EFFECTIVE[self.kind], self.hops if self.is_asked_for else []
+        for index, hop in enumerate(hops):
+            is_refused = self.result.number in (2, 3) and hop is hops[-1]
+            for number, (enforced, _) in enumerate(self.policies):
+                url = self.upgraded(hop) if enforced else hop.asked
+                if not (enforced and is_refused):
+                    yield Violation(number, enforced, effective, url, index > 0, False)
+        for number, (enforced, _) in enumerate(self.policies if hops and hops[-1].sent else []):
+            yield Violation(number, enforced, effective, hops[-1].sent, len(hops) > 1, True)
+
+    @property
+    def is_asked_for(self):
+        """Whether a policy is asked of it: it is no fault, and of a scheme that a browser loads."""
+        is_loaded = self.result.number != 1 or (self.is_unloaded and not self.is_mixed_socket)
+        return not self.result.is_fault and is_loaded
+
+    def is_violation(self, violation):
+        policy = self.policies[violation.policy][1]
+        name, words = csp.deciding(policy, violation.directive)
+        return name in policy and not csp.passes(words, self.asked_of(violation))
 
     def asked_of(self, violation):
         """What its policy was asked of."""
@@ -403,7 +438,10 @@ class Case:
     @property
     def near_word(self):
         """A word that would match, were it written otherwise."""
-        near = csp.near(self.directive[1], self.policy_asked) or csp.Near("", "", "")
+        return self.near_in(self.directive[1])
+
+    def near_in(self, words):
+        near = csp.near(words, self.policy_asked) or csp.Near("", "", "")
         return near._replace(written=re.sub("^http:", "https:", near.written)) if self.is_secure else near
 
     @property
@@ -448,7 +486,7 @@ class Case:
     def common_nonce(self):
         """The nonce that is to stand at the element: its own, where a policy has it, or the first of a policy; or an empty text."""
         effective = csp.EFFECTIVE[self.kind]
-        lists = [csp.deciding(policy, effective)[1] for _, policy in self.policies]
+        lists = [csp.deciding(policy, effective)[1] for policy in self.mended]
         found = [nonce for words in lists for nonce in csp.nonces([dict(csp.unquoted(words)).get(word, word) for word in words])]
         return self.nonce if self.nonce in found else found[0] if found else ""
 

@@ -110,14 +110,20 @@ def of_answer(edits, is_first):
 
 
 def of_page(edits, is_first):
-    said = [of_policy(edit) for edit in edits if "policy" in edit]
     moved = ["serve the page as %s" % edit["value"] for edit in edits if "policy" not in edit]
+    said = [of_policy(list(own)) for _, own in groupby((edit for edit in edits if "policy" in edit), policy_of)]
     return listed([*moved, *(["let " + listed(said)] if said else [])])
 
 
-def of_policy(edit):
-    said = "policy %d say `%s %s`" % (edit["policy"], edit["set"], edit["value"])
-    return said + " beside its `%s`" % edit["beside"] if "beside" in edit else said
+def policy_of(edit):
+    return edit["policy"]
+
+
+def of_policy(edits):
+    """The directives of one policy."""
+    said = "policy %d say `%s`" % (edits[0]["policy"], "; ".join("%s %s" % (one["set"], one["value"]) for one in edits))
+    beside = [one["beside"] for one in edits if "beside" in one]
+    return said + " beside its `%s`" % beside[0] if beside else said
 
 
 def of_request(edits, is_first):

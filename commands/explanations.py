@@ -562,10 +562,13 @@ def explain(case):
     return None if way is None else Explanation(way, case)
 
 
-def lines_of(case, with_reports=False):
-    """What is said of one that is refused: why, and what to change in each policy that refuses it, or reports it."""
+def lines_of(case, with_reports=False, with_all=True):
+    """What is said of one that is refused: why, and what to change in each policy that refuses it, or reports it. Without
+    all it is said of the policies alone."""
     told = [policy for policy in case.policies_told if policy.enforced or with_reports]
-    return (case.explanation.lines() if case.explanation else []) + [line for policy in told for line in policy.lines()]
+    is_of_policy = case.explanation is not None and case.explanation.way.startswith("policy/")
+    own = case.explanation.lines() if case.explanation and (with_all or is_of_policy) else []
+    return own + [line for policy in told for line in policy.lines()]
 
 
 def explain_policies(case):
@@ -575,9 +578,13 @@ def explain_policies(case):
     found = []
     for violation in case.violations:
         if violation not in own:
-            about = case.of_violation(violation)
-            found.append(PolicyExplanation(way_of(about, "19" if is_of_port(about) else "4"), about))
+            found.append(policy_explanation(case.of_violation(violation)))
     return found
+
+
+def policy_explanation(about):
+    """That of the violation that a case is about."""
+    return PolicyExplanation(way_of(about, "19" if is_of_port(about) else "4"), about)
 
 
 def is_of_port(case):

@@ -15,6 +15,12 @@ def violations(case):
              "url": one.url} for one in case.fetch.of("violation")]
 
 
+def told_violations(case):
+    """Each as it is printed, once: a report-only policy is told at the request and at the response."""
+    form = "%(policy)d %(disposition)s %(directive)s %(url)s"
+    return list(dict.fromkeys(form % one for one in violations(case)))
+
+
 def upgrades(case):
     """The URLs at which https was asked in the place of http, in order: the command, or a redirect, had said http."""
     found, said, is_known = [], joined(case.command.url, case.document["url"]), False

@@ -1,14 +1,15 @@
-"""What bin/expect does with `allowed`, `blocked` and `reported`: asks the policies of a test's documents for URLs. It plays
-a scenario of its own, in which each document loads what it is asked for, from servers that let every page read."""
+"""What bin/expect does with `allowed`, `blocked`, `reported`, `violating` and `not violating`: asks the policies of a
+test's documents for URLs. It plays a scenario of its own, in which each document loads what it is asked for, from servers
+that let every page read."""
 import json
 import re
 
-from commands import asking
+from commands import asking, findings
 from commands.explanations import lines_of
 from commands.refusals import nearest
 from commands.scenario import joined, origin_of
 
-KEYS = ("allowed", "blocked", "reported")
+KEYS = ("allowed", "blocked", "reported", "violating", "not violating")
 KINDS = ("fetch", "image", "audio", "video", "style", "script", "font", "manifest")
 ITEM = re.compile(r"(?:document ([0-9]{1,3}) )?(\S+) (\S.*)", re.S)
 EXAMPLE = '"script https://cdn.example/app.js"'
@@ -52,9 +53,9 @@ def problem(text):
     return None
 
 
-def differences(expect, scenario, refused):
-    """Lines for each question that is answered otherwise than expected. What a policy has refused is added to
-    `refused`, with the number of the document."""
+def differences(expect, scenario, passing):
+    """Lines for each question that is answered otherwise than expected. What is to pass is added to `passing`: the number
+    of the document, the case, and whether enforced policies and those that only report are to let it pass."""
     questions = [Question(key, text) for key in KEYS for text in listed(expect.get(key, []))]
     count = len(scenario.documents())
     for question in questions:
@@ -63,10 +64,9 @@ def differences(expect, scenario, refused):
                 question.key, question.text, count, "" if count == 1 else "s")
     known = [question for question in questions if question.document < count]
     for case, question in answered(scenario.data, known):
-        told = list(difference(question, case))
-        if told and question.key == "allowed" and case and case.violations:
-            refused.append((question.document, case, False))
-        yield from told
+        if case and question.key in ("allowed", "not violating"):
+            passing.append((question.document, case, True, question.key == "not violating"))
+        yield from difference(question, case)
 
 
 def listed(wanted):
@@ -127,14 +127,40 @@ def difference(question, case):
     if case is None:
         yield "%s: %s was not asked: the play of its document has too many lines" % (question.key, question.text)
         return
-    came = case.result.short()
-    if question.key == "reported":
-        if not any(not one.enforced for one in case.fetch.of("violation")):
-            yield "reported: expected that a report-only policy reports %s; none does" % question.text
-        return
+    violations = findings.told_violations(case)
+    is_reported = any(not one.enforced for one in case.fetch.of("violation"))
     is_blocked = not case.result.is_fault and case.result.number in POLICY_ERRORS
-    if question.key == "blocked" and not is_blocked:
-        yield "blocked: expected that a policy refuses %s; it came to %s" % (question.text, came)
-    if question.key == "allowed" and (is_blocked or not case.exchanges):  # by another rule, where nothing is sent
-        yield "allowed: expected that %s is let through; it came to %s" % (question.text, came)
+    yield from DIFFERENCES[question.key](question.text, case, violations, is_blocked, is_reported)
+
+
+def not_allowed(text, case, violations, is_blocked, is_reported):
+    if is_blocked or not case.exchanges:  # by another rule, where nothing is sent
+        yield "allowed: expected that %s is let through; it came to %s" % (text, case.result.short())
         yield from ("  " + line for line in lines_of(case))
+
+
+def not_blocked(text, case, violations, is_blocked, is_reported):
+    if not is_blocked:
+        hint = "; a policy that only reports reports it: `violating` holds of both" if is_reported else ""
+        yield "blocked: expected that a policy refuses %s; it came to %s%s" % (text, case.result.short(), hint)
+
+
+def not_reported(text, case, violations, is_blocked, is_reported):
+    if not is_reported:
+        hint = "; a policy that is enforced refuses it: `violating` holds of both" if is_blocked else ""
+        yield "reported: expected that a report-only policy reports %s; none does%s" % (text, hint)
+
+
+def not_violating(text, case, violations, is_blocked, is_reported):
+    if not violations:
+        yield "violating: expected that %s violates a policy; it violates none" % text
+
+
+def violating(text, case, violations, is_blocked, is_reported):
+    if violations:
+        yield "not violating: expected that %s violates no policy; there is %s" % (text, "; ".join(violations))
+        yield from ("  " + line for line in lines_of(case, True))
+
+
+# The lines of each key.
+DIFFERENCES = dict(zip(KEYS, (not_allowed, not_blocked, not_reported, not_violating, violating)))

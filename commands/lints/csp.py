@@ -94,8 +94,14 @@ def does_nothing(policy):
 
 
 def is_unheard(policy):
-    is_heard = any(name in policy.effective for name in REPORTING)
-    return policy.is_report_only and not is_heard and not is_idle_policy(policy)
+    return policy.is_report_only and not names_endpoint(policy) and not is_idle_policy(policy)
+
+
+def names_endpoint(policy):
+    """Also where the directive lacks its semicolon or is misspelt, which is another lint."""
+    words = (word.lower() for directive in policy.directives for word in (directive.name, *directive.rest))
+    misspelt = (nearest(one.name, grammar.SOURCES + grammar.OTHERS) for one in policy.directives if not one.is_known)
+    return any(name in REPORTING for name in (*words, *misspelt))
 
 
 def comma(policy):
