@@ -38,6 +38,19 @@ class Hop:
         self.is_known = False
 
 
+class Request:
+    """One that was not sent, as far as the rules of a scripted server look at it."""
+
+    kind = "send"
+
+    def __init__(self, url, method):
+        parts = urlsplit(url)
+        self.origin = origin_of(url)
+        self.target = (parts.path or "/") + ("?" + parts.query if parts.query else "")
+        self.method = method
+        self.headers = []
+
+
 class Case:
     """`exchanges` are pairs of a request and its answer, in order; the answer is None where it is not known. `is_net` says
     whether real servers answered, "direct" whether they were asked by their own names, over TLS where the URL says so."""
@@ -366,15 +379,44 @@ class Case:
     def questions(self):
         """Of each URL of the chain each policy, as a violation that there may be. No enforced one is asked of what
         another rule refuses before."""
-        effective, hops = csp.EFFECTIVE[self.kind], self.hops if self.is_asked_for else []
+        effective, hops = csp.EFFECTIVE[self.kind], self.hops + self.hops_ahead if self.is_asked_for else []
         for index, hop in enumerate(hops):
-            is_refused = self.result.number in (2, 3) and hop is hops[-1]
+            is_refused = self.result.number in (2, 3) and hop is self.hops[-1]
             for number, (enforced, _) in enumerate(self.policies):
                 url = self.upgraded(hop) if enforced else hop.asked
                 if not (enforced and is_refused):
                     yield Violation(number, enforced, effective, url, index > 0, False)
-        for number, (enforced, _) in enumerate(self.policies if hops and hops[-1].sent else []):
-            yield Violation(number, enforced, effective, hops[-1].sent, len(hops) > 1, True)
+        url = self.response_url(hops[-1]) if hops else None
+        for number, (enforced, _) in enumerate(self.policies if url else []):
+            yield Violation(number, enforced, effective, url, len(hops) > 1, True)
+
+    def response_url(self, hop):
+        """The URL of the answer at a hop, or of the one that there would be, did no policy refuse it; None where another
+        rule does."""
+        is_refused = self.result.number == 4 and not self.result.is_fault
+        is_known = any(one["until"] > self.scenario.data.get("now", 0) for one in self.named_hosts(hop.asked))
+        return hop.sent or (secure(hop.asked) if is_refused and is_known else None)
+
+    def named_hosts(self, url):
+        """The known hosts of the scenario, whether they still are or not, that are the URL's."""
+        host = host_of(url)
+        return [one for one in self.scenario.data.get("hsts", [])
+                if host == one["host"] or (one["subdomains"] and host.endswith("." + one["host"]))]
+
+    @cached_property
+    def hops_ahead(self):
+        """The URLs to which the scenario's servers would lead, did no policy refuse the last one."""
+        found, url = [], self.upgraded(self.hops[-1])
+        is_refused = self.result.number == 4 and not self.result.is_fault and not self.is_net
+        url = secure(url) if self.hops[-1].is_known else url
+        request = Request(url, self.method)
+        while is_refused and len(found) < MOST_REDIRECTS and request.origin:
+            answer = answers.scripted(self.scenario, request)
+            if not self.is_followed(answer):
+                break
+            found.append(Hop(joined(answer.head.get("Location"), self.whole(request))))
+            request = Request(self.upgraded(found[-1]), self.redirected(request, answer.head.status, found[-1].asked).method)
+        return found
 
     @property
     def is_asked_for(self):
@@ -495,6 +537,15 @@ class Case:
         """Whether a report-only policy was asked of a URL that is upgraded behind it, or refused as mixed content."""
         return (not self.violated.enforced and not self.violated.at_response and self.is_secure
                 and scheme_of(self.policy_url) == "http" and not is_trustworthy(self.policy_url))
+
+    @property
+    def is_upgraded_behind(self):
+        """Whether the URL of such a violation becomes https then, and is loaded."""
+        return any(hop.asked == self.policy_url and self.upgrade_of(hop) in ("policy", "mixed") for hop in self.hops)
+
+    @property
+    def while_reporting(self):
+        return ", which it needs while it only reports" if self.is_upgraded_behind else ""
 
     # ---- URLs that this engine does not load
 
@@ -691,9 +742,7 @@ class Case:
     @property
     def too_late(self):
         """What is to be said of a host that the scenario has as a known one, whether it still is or not."""
-        host = host_of(self.url)
-        is_named = any(host == one["host"] or (one["subdomains"] and host.endswith("." + one["host"]))
-                       for one in self.scenario.data.get("hsts", []))
+        is_named = self.named_hosts(self.url) != []
         return "; HSTS does not help, since known hosts are looked up after mixed content" if is_named else ""
 
     @property

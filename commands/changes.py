@@ -303,10 +303,11 @@ def secure_or_rewrite(c):
 
 
 def before_upgrade(c):
-    """The page asks over https itself; and the policy lets that."""
+    """The page asks over https itself, and the policy lets that; or the policy has the URL as it is asked for."""
     case, words = of_secure(c), own_words(c)
     passes = csp.passes(c.directive[1], case.policy_asked)
-    return [lead_secure(c) + ([] if passes else with_words(case, words))]
+    plain = [policy_edits(c, [*words, origin_of(c.policy_url)])] if c.is_upgraded_behind else []
+    return [lead_secure(c) + ([] if passes else with_words(case, words)), *plain]
 
 
 def of_secure(c):

@@ -163,7 +163,8 @@ POLICIES = [
         "no keyword, nonce or hash", "", "{change}{c.then_strict}", "csp.md#words-section-231-source-expression",
         changes.put_quotes),
     Way("policy/before-upgrade", "4", lambda c: c.is_before_upgrade,
-        "{c.policy} has `{c.directive_text}`, and is asked of {c.policy_url} as it is before any upgrade", "", "{change}",
+        "{c.policy} has `{c.directive_text}`, and no word of it matches {c.policy_url}: a policy that only reports is asked "
+        "before the URL becomes https, and one that is enforced behind that", "", "{change}{c.while_reporting}",
         "csp.md#when-a-fetch-asks-them-section-41-integration-with-fetch", changes.before_upgrade),
     Way("policy/data-script", "4", lambda c: c.kind == "script" and scheme_of(c.policy_url) == "data",
         "{c.policy} has `{c.directive_text}`, and a word that lets this `data:` URL pass lets every script pass that finds its way "

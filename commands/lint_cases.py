@@ -95,6 +95,7 @@ CSP_DIRECTIVES = {
     "csp/star-beside-others": (csp_of("img-src * https://a.test"), csp_of("img-src * data: blob: wss://a.test")),
     "csp/unsafe-inline-ignored": (csp_of("script-src 'nonce-n1' 'unsafe-inline'"),
                                   csp_of("script-src 'nonce-n1' 'strict-dynamic' 'unsafe-inline'")),
+    "csp/report-only-ignores": "a policy is left as it is where nothing else stands in it",
     "csp/strict-dynamic-alone": (csp_of("script-src 'strict-dynamic'"),
                                  csp_of("script-src 'strict-dynamic' 'sha256-%s'" % SHA256)),
     "csp/unsafe-hashes-alone": (csp_of("script-src 'self' 'unsafe-hashes'"),
@@ -328,4 +329,16 @@ ON_PURPOSE = {
     "gallery/star-with-credentials": {"cors/credentials-not-true": SHOWN, "cors/star-with-credentials": QUESTION},
     "gallery/two-allow-origins": {"cors/origin-list": SHOWN, "cors/origin-path": SHOWN, "cors/origin-twice": QUESTION},
     "gallery/vary-origin": {"cors/vary-missing": QUESTION},
+}
+
+# Lints of policies whose right text is not known, or does not stand in the policy, each with its reason. What the others
+# tell of is mended (lints/mending.py).
+OTHER_TEXT, OTHER_PLACE = "what is meant is not known", "it is no matter of one policy's text"
+UNMENDED = {
+    **dict.fromkeys(["csp/header-misspelt", "csp/header-obsolete", "csp/comma-for-semicolon", "csp/comma",
+                     "csp/report-to-unknown"], OTHER_PLACE),
+    **dict.fromkeys(["csp/does-nothing", "csp/report-only-unheard", "csp/no-word", "csp/nonce-characters",
+                     "csp/hash-length", "csp/hash-algorithm", "csp/address"], OTHER_TEXT),
+    "csp/report-only-ignores": "a policy is left as it is where nothing else stands in it",
+    "csp/strict-dynamic-alone": "the scripts of the page say whether a nonce or a hash is meant",
 }

@@ -15,6 +15,7 @@ class Told:
 
     def __init__(self, scenario, play, answer_of, is_net=False):
         scenario.attach(play)
+        self.scenario = scenario
         self.play = play
         self.cases = []
         for fetch in play.fetches():
@@ -49,7 +50,7 @@ class Told:
         if not known:
             return {}
         from commands.whole_policies import whole
-        return {number: whole(own[0].scenario, number, own) for number, own in known.items()}
+        return {number: whole(self.scenario, number, own) for number, own in known.items()}
 
     def data(self):
         return [case_data(case) for case in self.cases]

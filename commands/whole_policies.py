@@ -9,9 +9,9 @@ from commands import csp, edits
 from commands.explanations import policy_explanation
 
 
-class Whole(namedtuple("Whole", "policy enforced value changes mended besides")):
-    """A policy of a document by its number, as its text should be; so many different changes were named. `besides` are
-    the edits that other things than policies need, with the names of their fetches and loads."""
+class Whole(namedtuple("Whole", "policy enforced text value changes mended besides")):
+    """A policy of a document by its number, with its text and what that should be; so many different changes were named.
+    `besides` are the edits that other things than policies need, with the names of their fetches and loads."""
 
     @property
     def is_told(self) -> bool:
@@ -19,14 +19,17 @@ class Whole(namedtuple("Whole", "policy enforced value changes mended besides"))
         return self.changes + self.mended.slips > 1
 
     def line(self) -> str:
-        said = f"let policy {self.policy}{'' if self.enforced else ' (report-only)'} be `{self.value}`"
-        if self.mended.slips:
-            said += ", where what is warned of is mended" + ("" if self.mended.is_right else ", as far as it is known how")
         by_phrase: dict[str, list[str]] = {}
         for name, own in self.besides:
             by_phrase.setdefault(edits.phrase(own), []).append(name)
-        more = [f"for {edits.listed(names)} {phrase}" for phrase, names in by_phrase.items()]
-        return "in all: " + "; and ".join([said, *more])
+        said = [f"for {edits.listed(names)} {phrase}" for phrase, names in by_phrase.items()]
+        return "in all: " + "; and ".join(([] if self.value == self.text else [self.sentence()]) + said)
+
+    def sentence(self) -> str:
+        told = f"let policy {self.policy}{'' if self.enforced else ' (report-only)'} be `{self.value}`"
+        if not self.mended.slips:
+            return told
+        return told + ", where what is warned of is mended" + ("" if self.mended.is_right else ", as far as it is known how")
 
     def data(self) -> dict:
         besides = [{"name": name, "edits": own} for name, own in self.besides]
@@ -47,8 +50,8 @@ def whole(scenario, number: int, cases: list, is_wanted=lambda case, policy: Tru
             if is_wanted(case, violation.policy):
                 own = policy_explanation(under.of_violation(violation)).edits
                 found.setdefault(violation.policy, Gathered()).add(case, own)
-    return [found.get(index, Gathered()).whole(index, enforced, mended[index])
-            for index, (enforced, _) in enumerate(texts) if index in found or mended[index].slips]
+    return [found.get(index, Gathered()).whole(index, enforced, text.strip(), mended[index])
+            for index, (enforced, text) in enumerate(texts) if index in found or mended[index].slips]
 
 
 class Gathered:
@@ -66,13 +69,13 @@ class Gathered:
         if others:
             self.besides.append((case.fetch.name, others))
 
-    def whole(self, number: int, enforced: bool, mended) -> Whole:
+    def whole(self, number: int, enforced: bool, text: str, mended) -> Whole:
         """The policy with directives by their names, each of which has one or several values that are advised."""
-        own, text = csp.directives(mended.text), mended.text
+        own, value = csp.directives(mended.text), mended.text
         for name, values in self.by_name.items():
-            text = csp.with_directive(text, name, merged(own.get(name, own.get("default-src", [])), list(values)))
+            value = csp.with_directive(value, name, merged(own.get(name, own.get("default-src", [])), list(values)))
         changes = sum(map(len, self.by_name.values())) + len(self.besides)
-        return Whole(number, enforced, text, changes, mended, self.besides)
+        return Whole(number, enforced, text, value, changes, mended, self.besides)
 
 
 def merged(there: list[str], values: list[str]) -> str:
