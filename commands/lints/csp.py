@@ -90,7 +90,13 @@ def is_idle_policy(policy):
 
 
 def does_nothing(policy):
-    return is_idle_policy(policy) and not policy.is_pasted and not comma(policy)
+    is_meant = any(one in grammar.SOURCES for one in meant_names(policy))
+    return is_idle_policy(policy) and not policy.is_pasted and not comma(policy) and not is_meant
+
+
+def meant_names(policy):
+    """The names of directives that are meant by misspelt ones, which is another lint."""
+    return [nearest(one.name, grammar.SOURCES + grammar.OTHERS) for one in policy.directives if not one.is_known]
 
 
 def is_unheard(policy):
@@ -100,8 +106,7 @@ def is_unheard(policy):
 def names_endpoint(policy):
     """Also where the directive lacks its semicolon or is misspelt, which is another lint."""
     words = (word.lower() for directive in policy.directives for word in (directive.name, *directive.rest))
-    misspelt = (nearest(one.name, grammar.SOURCES + grammar.OTHERS) for one in policy.directives if not one.is_known)
-    return any(name in REPORTING for name in (*words, *misspelt))
+    return any(name in REPORTING for name in (*words, *meant_names(policy)))
 
 
 def comma(policy):
