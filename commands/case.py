@@ -391,8 +391,8 @@ class Case:
             yield Violation(number, enforced, effective, url, len(hops) > 1, True)
 
     def response_url(self, hop):
-        """The URL of the answer at a hop, or of the one that there would be, did no policy refuse it; None where another
-        rule does."""
+        """The URL of the answer at a hop, or of the one that there would be, did no policy refuse it; None where
+        another rule does."""
         is_refused = self.result.number == 4 and not self.result.is_fault
         is_known = any(one["until"] > self.scenario.data.get("now", 0) for one in self.named_hosts(hop.asked))
         return hop.sent or (secure(hop.asked) if is_refused and is_known else None)
@@ -415,7 +415,8 @@ class Case:
             if not self.is_followed(answer):
                 break
             found.append(Hop(joined(answer.head.get("Location"), self.whole(request))))
-            request = Request(self.upgraded(found[-1]), self.redirected(request, answer.head.status, found[-1].asked).method)
+            method = self.redirected(request, answer.head.status, found[-1].asked).method
+            request = Request(self.upgraded(found[-1]), method)
         return found
 
     @property

@@ -91,7 +91,8 @@ def of_outcome(place, value):
     if value.kind == "string":
         yield from of_items(value, place, result_problem)
     elif not value.members:
-        yield value, place, 'nothing is looked at here: write "result", or one of %s' % ", ".join(map('"%s"'.__mod__, LOOKS))
+        names = ", ".join('"%s"' % name for name in LOOKS)
+        yield value, place, 'nothing is looked at here: write "result", or one of ' + names
     else:
         for name, problem in (("result", result_problem), ("why", way_problem), ("violations", violation_problem)):
             if value.member(name) is not None:
@@ -198,8 +199,8 @@ def unnamed(expect, told):
 
 
 def whole_lines(scenario, told, passing, is_met):
-    """The policies that let all pass which is to pass, where one has several changes; of a test that is met those that are
-    warned of."""
+    """The policies that let all pass which is to pass, where one has several changes; of a test that is met those that
+    are warned of."""
     wanted = {id(case): (enforced, reported) for _, case, enforced, reported in passing}
 
     def is_wanted(case, policy):
@@ -220,7 +221,7 @@ def whole_lines(scenario, told, passing, is_met):
 
 
 def differences(expect, told, passing):
-    """Lines for all that came otherwise. What a policy is to let pass is added to `passing`, as policy_questions does."""
+    """Lines for all that came otherwise. What a policy is to let pass is added to `passing`, as by policy_questions."""
     cases = {(case.fetch.document.number, case.fetch.name): case for case in told.cases}
     for key, wanted in expect.items():
         if key == "sent":

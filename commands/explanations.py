@@ -163,8 +163,8 @@ POLICIES = [
         "no keyword, nonce or hash", "", "{change}{c.then_strict}", "csp.md#words-section-231-source-expression",
         changes.put_quotes),
     Way("policy/before-upgrade", "4", lambda c: c.is_before_upgrade,
-        "{c.policy} has `{c.directive_text}`, and no word of it matches {c.policy_url}: a policy that only reports is asked "
-        "before the URL becomes https, and one that is enforced behind that", "", "{change}{c.while_reporting}",
+        "{c.policy} has `{c.directive_text}`, and no word of it matches {c.policy_url}: a policy that only reports is "
+        "asked before the URL becomes https, and one that is enforced behind that", "", "{change}{c.while_reporting}",
         "csp.md#when-a-fetch-asks-them-section-41-integration-with-fetch", changes.before_upgrade),
     Way("policy/data-script", "4", lambda c: c.kind == "script" and scheme_of(c.policy_url) == "data",
         "{c.policy} has `{c.directive_text}`, and a word that lets this `data:` URL pass lets every script pass that finds its way "
@@ -564,8 +564,8 @@ def explain(case):
 
 
 def lines_of(case, with_reports=False, with_all=True):
-    """What is said of one that is refused: why, and what to change in each policy that refuses it, or reports it. Without
-    all it is said of the policies alone."""
+    """What is said of one that is refused: why, and what to change in each policy that refuses it, or reports it.
+    Without all it is said of the policies alone."""
     told = [policy for policy in case.policies_told if policy.enforced or with_reports]
     is_of_policy = case.explanation is not None and case.explanation.way.startswith("policy/")
     own = case.explanation.lines() if case.explanation and (with_all or is_of_policy) else []

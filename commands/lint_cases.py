@@ -350,8 +350,8 @@ ON_PURPOSE = {
     "gallery/vary-origin": {"cors/vary-missing": QUESTION},
 }
 
-# Lints of policies whose right text is not known, or does not stand in the policy, each with its reason. What the others
-# tell of is mended (lints/mending.py).
+# Lints of policies whose right text is not known, or does not stand in the policy, each with its reason. What the
+# others tell of is mended (lints/mending.py).
 OTHER_TEXT, OTHER_PLACE = "what is meant is not known", "it is no matter of one policy's text"
 UNMENDED = {
     **dict.fromkeys(["csp/header-misspelt", "csp/header-obsolete", "csp/comma-for-semicolon", "csp/comma",

@@ -1,6 +1,6 @@
 """What bin/expect does with `allowed`, `blocked`, `reported`, `violating` and `not violating`: asks the policies of a
-test's documents for URLs. It plays a scenario of its own, in which each document loads what it is asked for, from servers
-that let every page read."""
+test's documents for URLs. It plays a scenario of its own, in which each document loads what it is asked for, from
+servers that let every page read."""
 import json
 import re
 
@@ -54,8 +54,8 @@ def problem(text):
 
 
 def differences(expect, scenario, passing):
-    """Lines for each question that is answered otherwise than expected. What is to pass is added to `passing`: the number
-    of the document, the case, and whether enforced policies and those that only report are to let it pass."""
+    """Lines for each question that is answered otherwise than expected. What is to pass is added to `passing`: the
+    number of the document, the case, and whether enforced policies and those that only report are to let it pass."""
     questions = [Question(key, text) for key in KEYS for text in listed(expect.get(key, []))]
     count = len(scenario.documents())
     for question in questions:

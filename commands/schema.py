@@ -158,14 +158,15 @@ class Check:
         forms = schema.get("oneOf", [])
         if not forms or sum(self.fits(node, one) for one in forms) == 1:
             return
-        meant = [one for one in forms if self.is_meant(node, one)] or [one for one in forms if self.is_of_kind(node, one)]
+        meant = [one for one in forms if self.is_meant(node, one)]
+        meant = meant or [one for one in forms if self.is_object(node, one)]
         if len(meant) == 1:
             yield from self.problems(node, meant[0], path)
         else:
             yield Problem("form", node, path, schemas, wanted=forms)
 
-    def is_of_kind(self, node, form):
-        """Whether a node is an object, and so is an alternative: its keys are wrong, and not that it is one."""
+    def is_object(self, node, form):
+        """Whether a node is an object, as an alternative is: then its keys are wrong, and not that it is one."""
         return node.kind == "object" and any(one.get("type") == "object" for one in self.schema.linked(form))
 
     def is_meant(self, node, form):

@@ -10,8 +10,8 @@ from commands.explanations import policy_explanation
 
 
 class Whole(namedtuple("Whole", "policy enforced text value changes mended besides")):
-    """A policy of a document by its number, with its text and what that should be; so many different changes were named.
-    `besides` are the edits that other things than policies need, with the names of their fetches and loads."""
+    """A policy of a document by its number, with its text and what that should be; so many different changes were
+    named. `besides` are the edits that other things than policies need, with the names of their fetches and loads."""
 
     @property
     def is_told(self) -> bool:
@@ -29,7 +29,8 @@ class Whole(namedtuple("Whole", "policy enforced text value changes mended besid
         told = f"let policy {self.policy}{'' if self.enforced else ' (report-only)'} be `{self.value}`"
         if not self.mended.slips:
             return told
-        return told + ", where what is warned of is mended" + ("" if self.mended.is_right else ", as far as it is known how")
+        how = "" if self.mended.is_right else ", as far as it is known how"
+        return f"{told}, where what is warned of is mended{how}"
 
     def data(self) -> dict:
         besides = [{"name": name, "edits": own} for name, own in self.besides]

@@ -65,8 +65,9 @@ def of_scripts(word, meant):
 WORDS = {
     **dict.fromkeys(["csp/" + name for name in (
         "keyword-unquoted", "nonce-unquoted", "hash-unquoted", "other-quotes", "quoted-with-more", "host-quoted",
-        "scheme-without-colon", "http-on-https", "query-or-fragment", "wildcard-scheme", "wildcard-path", "scheme-alone",
-        "star-behind-scheme", "one-slash", "localhost-without-scheme", "ancestor-path", "report-over-http")], as_meant),
+        "scheme-without-colon", "http-on-https", "query-or-fragment", "wildcard-scheme", "wildcard-path",
+        "scheme-alone", "star-behind-scheme", "one-slash", "localhost-without-scheme", "ancestor-path",
+        "report-over-http")], as_meant),
     **dict.fromkeys(["csp/" + name for name in ("quote-missing", "unknown-keyword", "sandbox-word", "trusted-word")],
                     as_written),
     **dict.fromkeys(["csp/" + name for name in (
@@ -157,8 +158,8 @@ def of_document(headers, url, asks):
     found = []
     for at, (name, value) in enumerate(headers):
         if name.lower() in csp.HEADERS:
-            parts = [part for part in value.split(",") if part.strip(" \t;")]
-            found += [mended(known, at, name, number, part) for number, part in enumerate(parts) if csp.directives(part)]
+            parts = enumerate(part for part in value.split(",") if part.strip(" \t;"))
+            found += [mended(known, at, name, number, part) for number, part in parts if csp.directives(part)]
     return found
 
 
@@ -208,8 +209,8 @@ def is_joined(directive):
 
 
 def of_directive(directive, before):
-    """How many slips were mended, and the directives that stand in its place; or `before`, those in front of it, have its
-    words."""
+    """How many slips were mended, and the directives that stand in its place; or `before`, those in front of it, have
+    its words."""
     whole = [directive.written, *directive.rest]
     first = next((part for part in before if part[0].lower() == directive.name), None)
     if directive.is_again and first is not None:
