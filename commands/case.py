@@ -8,7 +8,7 @@ from collections import namedtuple
 from functools import cached_property
 from urllib.parse import urlsplit
 
-from commands import answers, csp
+from commands import answers, csp, edits
 from commands.needs import (ALLOW_CREDENTIALS, ALLOW_HEADERS, ALLOW_METHODS, ALLOW_ORIGIN, EXPOSE_HEADERS, TOKEN, Needs,
                             each_once, items_of, missed, unseen)
 from commands.play_text import header_of, is_preflight
@@ -458,7 +458,7 @@ class Case:
     @property
     def directive_text(self):
         name, words = self.directive
-        return " ".join([name, *words])
+        return edits.shortened(" ".join([name, *words]))
 
     @property
     def policy(self):
@@ -530,7 +530,8 @@ class Case:
         """The nonce that is to stand at the element: its own, where a policy has it, or the first of a policy; or an empty text."""
         effective = csp.EFFECTIVE[self.kind]
         lists = [csp.deciding(policy, effective)[1] for policy in self.mended]
-        found = [nonce for words in lists for nonce in csp.nonces([dict(csp.unquoted(words)).get(word, word) for word in words])]
+        mended = [(words, dict(csp.unquoted(words))) for words in lists]
+        found = [nonce for words, right in mended for nonce in csp.nonces([right.get(word, word) for word in words])]
         return self.nonce if self.nonce in found else found[0] if found else ""
 
     @property

@@ -11,6 +11,9 @@ answer, page, request or scenario), and `set`, `remove` or `add` what, with its 
 `commands/advice.py` makes each of them."""
 from itertools import groupby
 
+LONGEST = 4096  # characters of a directive in a sentence
+ENDS = 1000  # of a longer one so many stand there of its beginning and of its end
+
 
 def preflight(url, name, value):
     return {"at": "preflight", "method": "OPTIONS", "url": url, "set": name, "value": value}
@@ -115,13 +118,19 @@ def of_page(edits, is_first):
     return listed([*moved, *(["let " + listed(said)] if said else [])])
 
 
+def shortened(text):
+    """A directive as a sentence has it; the data have all of it."""
+    return text if len(text) <= LONGEST else f"{text[:ENDS]} .. {text[-ENDS:]}"
+
+
 def policy_of(edit):
     return edit["policy"]
 
 
 def of_policy(edits):
     """The directives of one policy."""
-    said = "policy %d say `%s`" % (edits[0]["policy"], "; ".join("%s %s" % (one["set"], one["value"]) for one in edits))
+    directives = "; ".join("%s %s" % (one["set"], shortened(one["value"])) for one in edits)
+    said = "policy %d say `%s`" % (edits[0]["policy"], directives)
     beside = [one["beside"] for one in edits if "beside" in one]
     return said + " beside its `%s`" % beside[0] if beside else said
 

@@ -133,6 +133,7 @@ class Scenario:
         self.rules_by = {}
         self.told_by = {}
         self.mended_by = {}
+        self.answers = {}  # of its rules, by the numbers of the server and the rule
 
     def servers(self):
         return self.data.get("servers", [])
