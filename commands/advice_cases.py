@@ -235,7 +235,8 @@ WHOLE = {
                "manifest-src 'self' https://cdn.test"}),
     "three policies": (scenario(
         [load("image", IMAGES + "/i.png"), load("image", "/i.png"), fetch("/x")],
-        headers=[[POLICY, "default-src 'none', img-src 'self'"], [REPORT, "default-src https:; img-src self"]]), {
+        headers=[[POLICY, "default-src 'none'"], [POLICY, "img-src 'self'"],
+                 [REPORT, "default-src https:; img-src self"]]), {
             0: "default-src 'none'; img-src https://img.test 'self'; connect-src 'self'",
             1: "img-src 'self' https://img.test", 2: "default-src https:; img-src 'self' https://img.test"}),
     "nonces of elements": (
@@ -272,6 +273,14 @@ WHOLE = {
         scenario([fetch(), fetch(CDN + "/x")],
                  headers=[[POLICY, "connect-src 'self' 'self' https://api.test; connect-src https://cdn.test"]]),
         {0: "connect-src 'self' https://api.test https://cdn.test"}),
+    "a comma for a blank": (
+        scenario([load("image", CDN + "/a.png"), load("image", "/a.png")],
+                 headers=[[POLICY, "img-src https://img.test, https://cdn.test"]]),
+        {0: "img-src https://img.test https://cdn.test 'self'", 1: ""}),
+    "commas for semicolons": (
+        scenario([load("image", IMAGES + "/a.png"), fetch()],
+                 headers=[[POLICY, "default-src 'none', img-src https://img.test"]]),
+        {0: "default-src 'none'; img-src https://img.test; connect-src https://api.test", 1: ""}),
     "what a redirect leads to behind what is refused": (
         scenario([fetch("/go")], [led(API + "/x")], PAGE, headers=[[POLICY, "connect-src 'none'"]],
                  **at(API, rule(200, [OK]))), {0: "connect-src 'self' https://api.test"}),

@@ -16,7 +16,7 @@ class Whole(namedtuple("Whole", "policy enforced text value changes mended besid
     @property
     def is_told(self) -> bool:
         """Whether it says more than the one change of a load, or than a lint."""
-        return self.changes + self.mended.slips > 1
+        return self.value != "" and self.changes + self.mended.slips > 1
 
     def line(self) -> str:
         by_phrase: dict[str, list[str]] = {}
@@ -26,7 +26,9 @@ class Whole(namedtuple("Whole", "policy enforced text value changes mended besid
         return "in all: " + "; and ".join(([] if self.value == self.text else [self.sentence()]) + said)
 
     def sentence(self) -> str:
-        told = f"let policy {self.policy}{'' if self.enforced else ' (report-only)'} be `{self.value}`"
+        last = self.policy + self.mended.joined
+        name = f"policies {self.policy} to {last} together" if self.mended.joined else f"policy {self.policy}"
+        told = f"let {name}{'' if self.enforced else ' (report-only)'} be `{self.value}`"
         if not self.mended.slips:
             return told
         how = "" if self.mended.is_right else ", as far as it is known how"

@@ -8,17 +8,18 @@ from collections import namedtuple
 
 from commands import csp
 from commands.lints import grammar, lints_of
-from commands.lints.csp import is_web_host
-from commands.lints.entry import DOCUMENT
-from commands.lints.policies import PASTED, Policy
+from commands.lints.csp import comma, is_web_host, widened
+from commands.lints.entry import DOCUMENT, nearest
+from commands.lints.policies import PASTED, Policy, is_swallowed
 from commands.lints.reading import Field, Headers
 
-LONGEST = 16384  # characters: a longer policy stays as it is
-MOST_ROUNDS = 64
+LONGEST = 8192  # characters: a longer policy stays as it is
+MOST_ROUNDS = 12
 STRAIGHT = str.maketrans("\u2018\u2019\u201a\u201b\u201c\u201d", "''''''")
 
-# A policy as it is meant: its text, how many slips were mended, and whether no fault is left.
-Mended = namedtuple("Mended", "text slips is_right")
+# A policy as it is meant: its text, how many slips were mended, whether no fault is left, and how many of those behind it
+# belong to it.
+Mended = namedtuple("Mended", "text slips is_right joined")
 
 
 # ---- single words: the words that stand in the place of one; None where what is meant is not known
@@ -155,12 +156,30 @@ DIRECTIVES = {
 def of_document(headers, url, asks):
     """All policies of a document's headers, numbered as csp.texts does. `asks` are what its scripts ask for."""
     known = Headers(DOCUMENT, headers, url, asks)
-    found = []
-    for at, (name, value) in enumerate(headers):
-        if name.lower() in csp.HEADERS:
-            parts = enumerate(part for part in value.split(",") if part.strip(" \t;"))
-            found += [mended(known, at, name, number, part) for number, part in parts if csp.directives(part)]
-    return found
+    return [one for at, (name, value) in enumerate(headers) if name.lower() in csp.HEADERS
+            for one in of_header(Field(known, at, name, value))]
+
+
+def of_header(field):
+    """Its policies. One behind a comma that is none belongs to the one before, and has no text then."""
+    groups, is_split = [], widened(field) is not None
+    for number, policy in enumerate(field.policies):
+        if csp.directives(policy.own_text):
+            if groups and (is_split or comma(policy)):
+                text = groups[-1][1].rstrip(" ;") + joint(policy, is_split) + policy.own_text
+                groups[-1] = groups[-1][0], text, groups[-1][2] + 1
+            else:
+                groups.append((number, policy.own_text, 0))
+    for number, text, joined in groups:
+        own = mended(field.headers, field.at, field.header, number, text)
+        yield own._replace(slips=own.slips + joined, joined=joined)
+        yield from [Mended("", joined, True, 0)] * joined
+
+
+def joint(policy, is_split):
+    """What is meant by the comma before a policy."""
+    names = grammar.SOURCES + grammar.OTHERS
+    return "; " if is_split or nearest(policy.directives[0].name, names) else " "
 
 
 def mended(headers, at, name, number, text):
@@ -170,9 +189,9 @@ def mended(headers, at, name, number, text):
         policy = Policy(Field(headers, at, name, text), number, text)
         count, parts = mended_once(policy, text)
         if count == 0:
-            return Mended(text, slips, not has_fault(policy))
+            return Mended(text, slips, not has_fault(policy), 0)
         text, slips = parts, slips + count
-    return Mended(text, slips, False)
+    return Mended(text, slips, False, 0)
 
 
 def has_fault(policy):
@@ -219,14 +238,24 @@ def of_directive(directive, before):
     if before and is_joined(directive):
         before[-1] += whole
         return 1, []
-    split = next((index for index, word in enumerate(directive.words) if word.is_directive), None)
-    if directive.is_known and split is not None:
-        return 1, [[directive.written, *directive.rest[:split]], directive.rest[split:]]
+    parts = split(whole) if directive.is_known else []
+    if len(parts) > 1:
+        return len(parts) - 1, parts
     own = first_mend(directive, DIRECTIVES)
     if own is not None:
         return 1, own
     is_looked_into = directive.is_known and directive.text.isascii() and not directive.is_again
     return of_words(directive) if is_looked_into else (0, [whole])
+
+
+def split(words):
+    """The directives of a text that lacks semicolons, where each begins with its name."""
+    parts = []
+    for word in words:
+        if not parts or is_swallowed(word, parts[-1][0].lower()):
+            parts.append([])
+        parts[-1].append(word)
+    return parts
 
 
 def of_words(directive):
