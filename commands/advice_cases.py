@@ -52,6 +52,10 @@ def script(**more):
     return load("script", **more)
 
 
+# What a page loads: of each kind something of its own and of others, and one that is upgraded.
+EACH_KIND = [*(load(kind, origin + "/" + kind) for kind in ("script", "style", "image", "audio", "font", "manifest")
+               for origin in (PAGE, CDN)),
+             load("image", "http://img.test/i.png"), script(url=CDN + "/n.js", nonce="n1"), fetch("/x"), fetch()]
 CODE = at(API, rule(200, [STAR], "abc"))  # of the digest above
 
 PREFLIGHTS = {
