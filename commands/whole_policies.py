@@ -27,7 +27,7 @@ class Whole(namedtuple("Whole", "policy enforced text value changes mended besid
 
     def sentence(self) -> str:
         last = self.policy + self.mended.joined
-        name = f"policies {self.policy} to {last} together" if self.mended.joined else f"policy {self.policy}"
+        name = f"policies {self.policy} to {last}, joined," if self.mended.joined else f"policy {self.policy}"
         told = f"let {name}{'' if self.enforced else ' (report-only)'} be `{self.value}`"
         if not self.mended.slips:
             return told
