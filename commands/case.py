@@ -68,6 +68,7 @@ class Case:
         self.document = scenario.documents()[fetch.document.number]
         self.about = None
         self.asked_by_test = []  # the headers that a test wants the script to see
+        self.kept_out = []  # what a test wants the page's policies to be violated by, as csp.Asked
 
     # ---- the page and the request
 

@@ -216,7 +216,23 @@ def policy_edits(c, words):
 
 
 def source_of(c):
-    """The word that lets the URL pass, and no more than its origin."""
+    """The word that lets the URL pass, and no more than its origin; less where a test wants some of that kept out."""
+    return next((word for word in sources_of(c) if not is_kept_out(c, word)), origin_source_of(c))
+
+
+def is_kept_out(c, word):
+    """Whether a word lets pass what a test wants to be kept out."""
+    return any(csp.EFFECTIVE[asked.kind] == c.violated.directive and csp.matches(word, asked) for asked in c.kept_out)
+
+
+def sources_of(c):
+    """The words that let the URL pass: by its origin, its folder and its whole path."""
+    path = re.match("[^?#]*", over(c.policy_url, c)).group().replace(";", "%3B").replace(",", "%2C")
+    narrow = [path[:path.rindex("/") + 1], path] if path.count("/") > 2 else []
+    return [origin_source_of(c), *filter(csp.HOST.fullmatch, narrow)]
+
+
+def origin_source_of(c):
     url = over(c.policy_url, c)
     if origin_of(url) == c.page_origin:
         return "'self'"
@@ -289,7 +305,7 @@ def rewrite(c):
     """The word that comes near, as it was meant. It stays beside that, unless it is no good for anything."""
     words = own_words(c)
     near = c.near_in(words)
-    if not near.word or csp.passes(words, c.policy_asked):
+    if not near.word or csp.passes(words, c.policy_asked) or is_kept_out(c, near.written):
         return [with_words(c, words)]
     if near.fault in ("path-star", "colon"):
         return [policy_edits(c, [near.written if word == near.word else word for word in words])]

@@ -158,8 +158,11 @@ def outcome_of(test, is_net, patience, is_strict):
     try:
         text, scenario, told = asking.played(test.scenario, is_net, patience)
         passing = []
+        kept_out = policy_questions.kept_out(test.expect, scenario.documents())
+        for case in told.cases:
+            policy_questions.keep_out(case, kept_out.get(case.fetch.document.number))
         lines = list(differences(test.expect, told, passing))
-        lines += policy_questions.differences(test.expect, scenario, passing)
+        lines += policy_questions.differences(test.expect, scenario, kept_out, passing)
         wholes = list(whole_lines(scenario, told, passing, is_met=not lines))
     except Wrong as wrong:
         return Outcome(test.name, wrong.refusal.told(test.scenario_name))
