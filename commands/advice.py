@@ -139,9 +139,12 @@ def change_policies(document, change):
 
 
 def made_whole(data, told):
-    """The scenario with all changes of its policies at once, and what the elements need besides."""
-    for case in told.cases:
-        data = made(data, case, [edit for edit in advised(case) if edit["at"] != "page" and case.violations])
+    """The scenario with all that the lines `in all` say of policies, and nothing else."""
+    cases = {(case.fetch.document.number, case.fetch.name): case for case in told.cases}
+    for number, own in told.whole_policies.items():
+        for name, change in (pair for one in own for pair in one.besides):
+            data = made(data, cases[number, name], change)
+    data = copy.deepcopy(data)
     for number, document in enumerate(data["documents"]):
         texts = {one.policy: one.value for one in told.whole_policies.get(number, [])}
         change_policies(document, lambda number, text: texts.get(number, text))

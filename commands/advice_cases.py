@@ -52,6 +52,10 @@ def script(**more):
     return load("script", **more)
 
 
+# What a page loads: of each kind something of its own and of others, and one that is upgraded.
+EACH_KIND = [*(load(kind, origin + "/" + kind) for kind in ("script", "style", "image", "audio", "font", "manifest")
+               for origin in (PAGE, CDN)),
+             load("image", "http://img.test/i.png"), script(url=CDN + "/n.js", nonce="n1"), fetch("/x"), fetch()]
 CODE = at(API, rule(200, [STAR], "abc"))  # of the digest above
 
 PREFLIGHTS = {
@@ -269,21 +273,62 @@ WHOLE = {
          load("font", "https://fonts.test/f"), fetch(), fetch("wss://live.test/x"), fetch("/own"),
          load("audio", "https://media.test/a"), load("manifest", CDN + "/m.json")],
         headers=[[POLICY, "default-src 'self'; script-src 'self' https://cdn.test/v1"]]), {
-            0: "default-src 'self'; script-src 'self' https://cdn.test/v1 https://cdn.test; "
+            0: "default-src 'self'; script-src 'self' https://cdn.test/v1/ https://cdn.test; "
                "style-src 'self' https://cdn.test; img-src 'self' https://img.test data:; "
                "font-src 'self' https://fonts.test; "
                "connect-src 'self' https://api.test wss://live.test; media-src 'self' https://media.test; "
                "manifest-src 'self' https://cdn.test"}),
     "three policies": (scenario(
         [load("image", IMAGES + "/i.png"), load("image", "/i.png"), fetch("/x")],
-        headers=[[POLICY, "default-src 'none', img-src 'self'"], [REPORT, "default-src https:; img-src self"]]), {
+        headers=[[POLICY, "default-src 'none'"], [POLICY, "img-src 'self'"],
+                 [REPORT, "default-src https:; img-src self"]]), {
             0: "default-src 'none'; img-src https://img.test 'self'; connect-src 'self'",
             1: "img-src 'self' https://img.test", 2: "default-src https:; img-src 'self' https://img.test"}),
     "nonces of elements": (
-        scenario([script(), script(url=CDN + "/x", nonce="b")], headers=[[POLICY, "script-src 'nonce-a'"]]), {}),
+        scenario([script(), script(url=CDN + "/x", nonce="b")], headers=[[POLICY, "script-src 'nonce-a'"]]),
+        {0: "script-src 'nonce-a'"}),
     "scripts without a nonce": (
         scenario([script(), script(url=CDN + "/x")], headers=[[POLICY, "script-src 'strict-dynamic'"]]),
         {0: "script-src 'strict-dynamic' 'nonce-r4nd0m'"}),
+    # What is warned of is mended; and each load is asked of the mended text, which refuses more.
+    "a semicolon, quotes and a slash": (scenario(
+        [script(url=CDN + "/lib/v3/ui.js"), script(url="https://stats.test/t.js"), load("style", "/a.css"),
+         load("style", "https://fonts.test/css"), load("image", "http://img.shop.test/c.gif"), fetch(), fetch("/x")],
+        headers=[[REPORT, "default-src self; script-src 'self' https://cdn.test/lib; img-src *.shop.test; "
+                  "connect-src 'self' https://log.test report-uri https://shop.test/csp"]]), {
+            0: "default-src 'self'; script-src 'self' https://cdn.test/lib/ https://stats.test; img-src *.shop.test; "
+               "connect-src 'self' https://log.test https://api.test; report-uri https://shop.test/csp; "
+               "style-src 'self' https://fonts.test"}),
+    "misspelt names and keywords": (scenario(
+        [script(url="/a.js"), script(url=CDN + "/b.js"), load("style", "/a.css"), load("image", IMAGES + "/a.png"),
+         load("font", "https://fonts.test/f"), fetch()],
+        headers=[[POLICY, "defualt-src 'none'; script-src 'slef' nonce-abc; img-src https://img.test 'none'"]]), {
+            0: "default-src 'none'; script-src 'self' 'nonce-abc'; img-src https://img.test; style-src 'self'; "
+               "font-src https://fonts.test; connect-src https://api.test"}),
+    "a name that is misspelt, and refuses nothing yet": (scenario(
+        [load("image", IMAGES + "/a.png")], headers=[[POLICY, "defualt-src 'self'"]]),
+        {0: "default-src 'self'; img-src 'self' https://img.test"}),
+    "quotes of 'strict-dynamic'": (
+        scenario([script(), script(url=CDN + "/x")], headers=[[POLICY, "script-src strict-dynamic https://cdn.test"]]),
+        {0: "script-src 'strict-dynamic' https://cdn.test 'nonce-r4nd0m'"}),
+    "a word of a folder, and its own path": (
+        scenario([fetch(API + "/v1"), fetch(API + "/v1/x")], headers=[[POLICY, "connect-src https://api.test/v1"]]),
+        {0: "connect-src https://api.test/v1/ https://api.test/v1"}),
+    "words that stand twice, and a directive": (
+        scenario([fetch(), fetch(CDN + "/x")],
+                 headers=[[POLICY, "connect-src 'self' 'self' https://api.test; connect-src https://cdn.test"]]),
+        {0: "connect-src 'self' https://api.test https://cdn.test"}),
+    "a comma for a blank": (
+        scenario([load("image", CDN + "/a.png"), load("image", "/a.png")],
+                 headers=[[POLICY, "img-src https://img.test, https://cdn.test"]]),
+        {0: "img-src https://img.test https://cdn.test 'self'", 1: ""}),
+    "commas for semicolons": (
+        scenario([load("image", IMAGES + "/a.png"), fetch()],
+                 headers=[[POLICY, "default-src 'none', img-src https://img.test"]]),
+        {0: "default-src 'none'; img-src https://img.test; connect-src https://api.test", 1: ""}),
+    "what a redirect leads to behind what is refused": (
+        scenario([fetch("/go")], [led(API + "/x")], PAGE, headers=[[POLICY, "connect-src 'none'"]],
+                 **at(API, rule(200, [OK]))), {0: "connect-src 'self' https://api.test"}),
 }
 
 

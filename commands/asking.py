@@ -100,7 +100,7 @@ class Said:
             + [dict(zip(("url", "header", "sentence", "lint"), warning)) for warning in self.answer_warnings],
             "fetches": [{**one, **findings.of(case), "summary": line}
                         for one, case, line in zip(self.told.data(), self.told.cases, lines)],
-            "policies_in_all": [{"document": number, "policy": one.policy, "enforced": one.enforced, "value": one.value}
+            "policies_in_all": [{"document": number, **one.data()}
                                 for number, own in self.told.whole_policies.items() for one in own]}
 
     def write(self, name):

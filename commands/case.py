@@ -40,6 +40,19 @@ class Hop:
         self.is_known = False
 
 
+class Request:
+    """One that was not sent, as far as the rules of a scripted server look at it."""
+
+    kind = "send"
+
+    def __init__(self, url, method):
+        parts = urlsplit(url)
+        self.origin = origin_of(url)
+        self.target = (parts.path or "/") + ("?" + parts.query if parts.query else "")
+        self.method = method
+        self.headers = []
+
+
 class Case:
     """`exchanges` are pairs of a request and its answer, in order; the answer is None where it is not known. `is_net` says
     whether real servers answered, "direct" whether they were asked by their own names, over TLS where the URL says so."""
@@ -58,6 +71,7 @@ class Case:
         self.about = None
         self.plain_reasons = []  # why the URLs of the chain stay http, as known_hosts.py has it
         self.asked_by_test = []  # the headers that a test wants the script to see
+        self.kept_out = []  # what a test wants the page's policies to be violated by, as csp.Asked
 
     # ---- the page and the request
 
@@ -366,6 +380,24 @@ class Case:
         return csp.numbered(self.document.get("headers", []))
 
     @cached_property
+    def mended(self):
+        """The directives of each policy, with what is warned of in it mended; what is advised is built on them."""
+        return [csp.directives(one.text) for one in self.scenario.mended_policies(self.fetch.document.number)]
+
+    @property
+    def words_to_change(self):
+        """The name of the directive of the violated policy that is to be changed, and its words, mended."""
+        name, words = csp.deciding(self.mended[self.violated.policy], self.violated.directive)
+        return (name, words) if name in self.mended[self.violated.policy] else self.directive
+
+    def under(self, policies):
+        """The same case, where the page has these policies: for each its disposition, and its directives."""
+        case = copy.copy(self)
+        case.policies, case.mended = policies, [policy for _, policy in policies]
+        case.violations = distinct(case.would_violate())
+        return case
+
+    @cached_property
     def violations(self):
         """Each violation that was told, once for each policy and URL; of a URL that is not loaded here those that were."""
         found, hops, number = [], self.hops, 0
@@ -381,15 +413,62 @@ class Case:
         return distinct(self.would_violate() if self.is_unloaded and not self.is_mixed_socket else found)
 
     def would_violate(self):
-        """The policies that would refuse the URL."""
-        effective = csp.EFFECTIVE[self.kind]
-        asked = self.asked_of(Violation(0, True, effective, self.url, False, False))
-        found = []
-        for number, (enforced, policy) in enumerate(self.policies):
-            name, words = csp.deciding(policy, effective)
-            if name in policy and not csp.passes(words, asked):
-                found.append(Violation(number, enforced, effective, self.url, False, False))
+        """The policies that refuse a URL of the chain, or report it."""
+        return [one for one in self.questions() if self.is_violation(one)]
+
+    def questions(self):
+        """Of each URL of the chain each policy, as a violation that there may be. No enforced one is asked of what
+        another rule refuses before."""
+        effective, hops = csp.EFFECTIVE[self.kind], self.hops + self.hops_ahead if self.is_asked_for else []
+        for index, hop in enumerate(hops):
+            is_refused = self.result.number in (2, 3) and hop is self.hops[-1]
+            for number, (enforced, _) in enumerate(self.policies):
+                url = self.upgraded(hop) if enforced else hop.asked
+                if not (enforced and is_refused):
+                    yield Violation(number, enforced, effective, url, index > 0, False)
+        url = self.response_url(hops[-1]) if hops else None
+        for number, (enforced, _) in enumerate(self.policies if url else []):
+            yield Violation(number, enforced, effective, url, len(hops) > 1, True)
+
+    def response_url(self, hop):
+        """The URL of the answer at a hop, or of the one that there would be, did no policy refuse it; None where
+        another rule does."""
+        is_refused = self.result.number == 4 and not self.result.is_fault
+        is_known = any(one["until"] > self.scenario.data.get("now", 0) for one in self.named_hosts(hop.asked))
+        return hop.sent or (secure(hop.asked) if is_refused and is_known else None)
+
+    def named_hosts(self, url):
+        """The known hosts of the scenario, whether they still are or not, that are the URL's."""
+        host = host_of(url)
+        return [one for one in self.scenario.data.get("hsts", [])
+                if host == one["host"] or (one["subdomains"] and host.endswith("." + one["host"]))]
+
+    @cached_property
+    def hops_ahead(self):
+        """The URLs to which the scenario's servers would lead, did no policy refuse the last one."""
+        found, url = [], self.upgraded(self.hops[-1])
+        is_refused = self.result.number == 4 and not self.result.is_fault and not self.is_net
+        url = secure(url) if self.hops[-1].is_known else url
+        request = Request(url, self.method)
+        while is_refused and len(found) < MOST_REDIRECTS and request.origin:
+            answer = answers.scripted(self.scenario, request)
+            if not self.is_followed(answer):
+                break
+            found.append(Hop(joined(answer.head.get("Location"), self.whole(request))))
+            method = self.redirected(request, answer.head.status, found[-1].asked).method
+            request = Request(self.upgraded(found[-1]), method)
         return found
+
+    @property
+    def is_asked_for(self):
+        """Whether a policy is asked of it: it is no fault, and of a scheme that a browser loads."""
+        is_loaded = self.result.number != 1 or (self.is_unloaded and not self.is_mixed_socket)
+        return not self.result.is_fault and is_loaded
+
+    def is_violation(self, violation):
+        policy = self.policies[violation.policy][1]
+        name, words = csp.deciding(policy, violation.directive)
+        return name in policy and not csp.passes(words, self.asked_of(violation))
 
     def asked_of(self, violation):
         """What its policy was asked of."""
@@ -442,7 +521,10 @@ class Case:
     @property
     def near_word(self):
         """A word that would match, were it written otherwise."""
-        near = csp.near(self.directive[1], self.policy_asked) or csp.Near("", "", "")
+        return self.near_in(self.directive[1])
+
+    def near_in(self, words):
+        near = csp.near(words, self.policy_asked) or csp.Near("", "", "")
         return near._replace(written=re.sub("^http:", "https:", near.written)) if self.is_secure else near
 
     @property
@@ -487,7 +569,7 @@ class Case:
     def common_nonce(self):
         """The nonce that is to stand at the element: its own, where a policy has it, or the first of a policy; or an empty text."""
         effective = csp.EFFECTIVE[self.kind]
-        lists = [csp.deciding(policy, effective)[1] for _, policy in self.policies]
+        lists = [csp.deciding(policy, effective)[1] for policy in self.mended]
         mended = [(words, dict(csp.unquoted(words))) for words in lists]
         found = [nonce for words, right in mended for nonce in csp.nonces([right.get(word, word) for word in words])]
         return self.nonce if self.nonce in found else found[0] if found else ""
@@ -497,6 +579,15 @@ class Case:
         """Whether a report-only policy was asked of a URL that is upgraded behind it, or refused as mixed content."""
         return (not self.violated.enforced and not self.violated.at_response and self.is_secure
                 and scheme_of(self.policy_url) == "http" and not is_trustworthy(self.policy_url))
+
+    @property
+    def is_upgraded_behind(self):
+        """Whether the URL of such a violation becomes https then, and is loaded."""
+        return any(hop.asked == self.policy_url and self.upgrade_of(hop) in ("policy", "mixed") for hop in self.hops)
+
+    @property
+    def while_reporting(self):
+        return ", which it needs while it only reports" if self.is_upgraded_behind else ""
 
     # ---- URLs that this engine does not load
 
@@ -717,11 +808,7 @@ class Case:
     @property
     def too_late(self):
         """What is to be said of a host that the scenario has as a known one, though it is none any more."""
-        if self.but_known:
-            return ""
-        host = host_of(self.url)
-        is_named = any(host == one["host"] or (one["subdomains"] and host.endswith("." + one["host"]))
-                       for one in self.scenario.data.get("hsts", []))
+        is_named = not self.but_known and self.named_hosts(self.url) != []
         return "; HSTS does not help, since known hosts are looked up after mixed content" if is_named else ""
 
     @property

@@ -14,6 +14,7 @@ EFFECTIVE = {"fetch": "connect-src", "image": "img-src", "audio": "media-src", "
 HEADERS = {"content-security-policy": True, "content-security-policy-report-only": False}  # whether it is enforced
 KEYWORDS = ("self", "none", "unsafe-inline", "unsafe-eval", "strict-dynamic", "unsafe-hashes", "report-sample",
             "wasm-unsafe-eval")
+NONCE = re.compile(r"'nonce-[A-Za-z0-9+/_-]+={0,2}'", re.I)
 HASH = r"sha(?:256|384|512)-[A-Za-z0-9+/_-]+={0,2}"
 QUOTED = re.compile("(?:%s|nonce-[A-Za-z0-9+/_-]+={0,2}|%s)" % ("|".join(KEYWORDS), HASH), re.I)
 SCHEME = re.compile(r"([A-Za-z][A-Za-z0-9+.-]*):")
@@ -133,7 +134,8 @@ def place_of(word):
 
 
 def nonces(words):
-    return [word[7:-1] for word in words if word.lower().startswith("'nonce-") and word.endswith("'")]
+    """Those that are none by the grammar match nothing."""
+    return [word[7:-1] for word in words if NONCE.fullmatch(word)]
 
 
 def hashes(words):

@@ -144,10 +144,10 @@ def answer_named(edits, before):
 
 
 def of_page(edits, before):
-    said = [of_policy(edit) for edit in edits if "policy" in edit]
     moved = ["serve the page as %s" % edit["value"] for edit in edits if edit.get("set") == "url"]
     added = ["serve the page with `%s: %s`, by which all its http URLs become https" % (edit["add"], edit["value"])
              for edit in edits if "add" in edit]
+    said = [of_policy(list(own)) for _, own in groupby((edit for edit in edits if "policy" in edit), policy_of)]
     return listed([*moved, *added, *(["let " + listed(said)] if said else [])])
 
 
@@ -156,9 +156,16 @@ def shortened(text):
     return text if len(text) <= LONGEST else f"{text[:ENDS]} .. {text[-ENDS:]}"
 
 
-def of_policy(edit):
-    said = "policy %d say `%s %s`" % (edit["policy"], edit["set"], shortened(edit["value"]))
-    return said + " beside its `%s`" % edit["beside"] if "beside" in edit else said
+def policy_of(edit):
+    return edit["policy"]
+
+
+def of_policy(edits):
+    """The directives of one policy."""
+    directives = "; ".join("%s %s" % (one["set"], shortened(one["value"])) for one in edits)
+    said = "policy %d say `%s`" % (edits[0]["policy"], directives)
+    beside = [one["beside"] for one in edits if "beside" in one]
+    return said + " beside its `%s`" % beside[0] if beside else said
 
 
 def of_request(edits, before):

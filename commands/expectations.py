@@ -3,7 +3,7 @@ import functools
 import os
 import re
 
-from commands import (asking, edits, findings, json_text, lints, notes, play_text, policy_questions, refusals,
+from commands import (asking, csp, edits, findings, json_text, lints, notes, play_text, policy_questions, refusals,
                       results, running, streams, verdicts)
 from commands.asking import Wrong
 from commands.case import CAUSES
@@ -90,9 +90,13 @@ def of_items(value, place, problem):
 
 
 def of_outcome(place, value):
-    yield from of_items(value if value.kind == "string" else value.member("result"), place, result_problem)
-    if value.kind == "object":
-        for name, problem in (("why", way_problem), ("violations", violation_problem)):
+    if value.kind == "string":
+        yield from of_items(value, place, result_problem)
+    elif not value.members:
+        names = ", ".join('"%s"' % name for name in LOOKS)
+        yield value, place, 'nothing is looked at here: write "result", or one of ' + names
+    else:
+        for name, problem in (("result", result_problem), ("why", way_problem), ("violations", violation_problem)):
             if value.member(name) is not None:
                 yield from of_items(value.member(name), "%s/%s" % (place, name), problem)
 
@@ -155,10 +159,13 @@ def outcome(path, data, is_net, patience, is_strict=False):
 def outcome_of(test, is_net, patience, is_strict):
     try:
         text, scenario, told = asking.played(test.scenario, is_net, patience)
-        refused = []
-        lines = list(differences(test.expect, told, refused))
-        lines += policy_questions.differences(test.expect, scenario, refused)
-        lines += whole_lines(scenario, refused)
+        passing = []
+        kept_out = policy_questions.kept_out(test.expect, scenario.documents())
+        for case in told.cases:
+            policy_questions.keep_out(case, kept_out.get(case.fetch.document.number))
+        lines = list(differences(test.expect, told, passing))
+        lines += policy_questions.differences(test.expect, scenario, kept_out, passing)
+        wholes = list(whole_lines(scenario, told, passing, is_met=not lines))
     except Wrong as wrong:
         return Outcome(test.name, wrong.refusal.told(test.scenario_name))
     except (running.Failed, play_text.NoPlay) as failure:
@@ -167,7 +174,8 @@ def outcome_of(test, is_net, patience, is_strict):
     warned += [(line, True) for line in unnamed(test.expect, told)] if is_strict else []
     faults = [line for line, is_fault in warned if is_fault and is_strict]
     by_strict = [ONLY_STRICT] if faults and not lines else []
-    return Outcome(test.name, lines + by_strict + faults, [line for line, _ in warned])
+    return Outcome(test.name, lines + (wholes if lines else []) + by_strict + faults,
+                   [*(line for line, _ in warned), *wholes])
 
 
 def warnings(text, scenario, told, name, is_net):
@@ -197,22 +205,30 @@ def unnamed(expect, told):
         yield f"warning: {len(left) - MOST_UNNAMED} more fetches and loads are not named: add them"
 
 
-def whole_lines(scenario, refused):
-    """The policies that let all pass which a policy has refused, where one has several changes: by a document's number,
-    a case, and whether the test wants no report of it either."""
-    for number in sorted({number for number, _, _ in refused}):
+def whole_lines(scenario, told, passing, is_met):
+    """The policies that let all pass which is to pass, where one has several changes; of a test that is met those that
+    are warned of."""
+    wanted = {id(case): (enforced, reported) for _, case, enforced, reported in passing}
+
+    def is_wanted(case, policy):
+        """Also what has passed until now, and what is warned of would hinder once it is mended."""
+        is_enforced = case.policies[policy][0]
+        has_passed = all(one.policy != policy for one in case.violations)
+        return has_passed or wanted.get(id(case), (False, False))[0 if is_enforced else 1]
+    for number, document in enumerate(scenario.documents()):
+        own = [case for case in told.cases if case.fetch.document.number == number]
+        own += [case for of, case, _, _ in passing if of == number and case not in own]
+        if not any(name.lower() in csp.HEADERS for name, _ in document.get("headers", [])):
+            continue
         from commands.whole_policies import whole
         name = f"document {number}: " if len(scenario.documents()) > 1 else ""
-        headers = scenario.documents()[number].get("headers", [])
-        cases = [case for of, case, _ in refused if of == number]
-        reported = [case for of, case, with_reports in refused if of == number and with_reports]
-        wholes = [one for one in whole(headers, cases) if one.enforced]
-        wholes += [one for one in whole(headers, reported) if not one.enforced]
-        yield from (name + one.line() for one in wholes if one.changes > 1)
+        for one in whole(scenario, number, own, is_wanted):
+            if one.is_told and (one.mended.slips or not is_met):
+                yield name + one.line()
 
 
-def differences(expect, told, refused):
-    """Lines for all that came otherwise. What a policy has refused is added to `refused`."""
+def differences(expect, told, passing):
+    """Lines for all that came otherwise. What a policy is to let pass is added to `passing`, as by policy_questions."""
     cases = {(case.fetch.document.number, case.fetch.name): case for case in told.cases}
     for key, wanted in expect.items():
         if key == "sent":
@@ -220,7 +236,7 @@ def differences(expect, told, refused):
         elif key == "never sent":
             yield from unwanted(told, listed(wanted))
         elif key not in policy_questions.KEYS:
-            yield from of_fetch(key, wanted, cases, refused)
+            yield from of_fetch(key, wanted, cases, passing)
 
 
 def listed(wanted):
@@ -255,37 +271,35 @@ def unwanted(told, wanted):
 
 # ---- one fetch
 
-def of_fetch(key, wanted, cases, refused):
+def of_fetch(key, wanted, cases, passing):
     case = cases.get(fetch_of(key))
     if case is None:
         has = ", ".join(name for _, name in list(cases)[:20]) or "none"
         yield "%s: there is none; the play has %s" % (key, has)
         return
-    wanted = {"result": wanted} if isinstance(wanted, str) else wanted
-    found = list(of_case(case, wanted))
-    yield from ("%s: %s" % (key, line) for line in found)
+    found = list(of_case(case, {"result": wanted} if isinstance(wanted, str) else wanted))
+    yield from ("%s%s: %s" % (key, verdicts.asked(case), line) for _, line in found)
+    failed = {name for name, _ in found}
     if found and "sees" in wanted:
         case.asked_by_test = list(wanted["sees"])
         case.explanation = explain(case)
-    if found:
-        with_reports = "violations" in wanted
-        refused += [(case.fetch.document.number, case, with_reports)] if case.violations else []
-        yield from ("  " + line for line in lines_of(case, with_reports))
+    if failed:
+        passing.append((case.fetch.document.number, case, True, "violations" in failed))
+        yield from ("  " + line for line in lines_of(case, "violations" in failed, failed != {"violations"}))
 
 
 def of_case(case, wanted):
-    """What came otherwise of one fetch or load."""
+    """What came otherwise of one fetch or load, each line with the key of what it tells."""
     keys = [key for key in LOOKS if key in wanted]
-    if not is_met(wanted["result"], case.result):
+    if "result" in wanted and not is_met(wanted["result"], case.result):
         following = [key for key in keys if key in FOLLOWING and case.result.is_refused()]
         keys = [key for key in keys if key not in following]
         more = "; not compared, since it follows: " + edits.listed(following) if following else ""
-        yield "expected %s; it came to %s%s" % (wanted["result"], case.result.short(), more)
+        yield "result", "expected %s; it came to %s%s" % (wanted["result"], case.result.short(), more)
     told = {key: list(LOOKS[key](case, wanted[key])) for key in keys}
     if told.get("upgraded"):  # so it was sent elsewhere
         told.pop("sent", None)
-    for lines in told.values():
-        yield from lines
+    yield from ((key, line) for key, lines in told.items() for line in lines)
 
 
 def negated(wanted):
@@ -343,16 +357,14 @@ def look_at_requests(case, wanted):
 
 
 def look_at_violations(case, wanted):
-    """Each violation is expected, and each expected one comes, be it once or more: a report-only policy is told at the
-    request and at the response."""
-    form = "%(policy)d %(disposition)s %(directive)s %(url)s"
-    came = list(dict.fromkeys(form % one for one in findings.violations(case)))
+    """Each violation is expected, and each expected one comes, be it once or more."""
+    came = findings.told_violations(case)
     for one in wanted:
         if not any(is_part(one, violation) for violation in came):
             yield "expected the violation %s; there is %s" % (one, "; ".join(came) or "none")
     for violation in came:
         if not any(is_part(one, violation) for one in wanted):
-            yield "expected no other violation; there is %s" % violation
+            yield "expected no %sviolation; there is %s" % ("other " if wanted else "", violation)
 
 
 def is_part(wanted, violation):

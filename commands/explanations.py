@@ -166,7 +166,8 @@ POLICIES = [
         "no keyword, nonce or hash", "", "{change}{c.then_strict}", "csp.md#words-section-231-source-expression",
         changes.put_quotes),
     Way("policy/before-upgrade", "4", lambda c: c.is_before_upgrade,
-        "{c.policy} has `{c.directive_text}`, and is asked of {c.policy_url} as it is before any upgrade", "", "{change}",
+        "{c.policy} has `{c.directive_text}`, and no word of it matches {c.policy_url}: a policy that only reports is "
+        "asked before the URL becomes https, and one that is enforced behind that", "", "{change}{c.while_reporting}",
         "csp.md#when-a-fetch-asks-them-section-41-integration-with-fetch", changes.before_upgrade),
     Way("policy/data-script", "4", lambda c: c.kind == "script" and scheme_of(c.policy_url) == "data",
         "{c.policy} has `{c.directive_text}`, and a word that lets this `data:` URL pass lets every script pass that finds its way "
@@ -576,10 +577,13 @@ def explain(case):
     return None if way is None else Explanation(way, case)
 
 
-def lines_of(case, with_reports=False):
-    """What is said of one that is refused: why, and what to change in each policy that refuses it, or reports it."""
+def lines_of(case, with_reports=False, with_all=True):
+    """What is said of one that is refused: why, and what to change in each policy that refuses it, or reports it.
+    Without all it is said of the policies alone."""
     told = [policy for policy in case.policies_told if policy.enforced or with_reports]
-    return (case.explanation.lines() if case.explanation else []) + [line for policy in told for line in policy.lines()]
+    is_of_policy = case.explanation is not None and case.explanation.way.startswith("policy/")
+    own = case.explanation.lines() if case.explanation and (with_all or is_of_policy) else []
+    return own + [line for policy in told for line in policy.lines()]
 
 
 def explain_policies(case):
@@ -589,9 +593,13 @@ def explain_policies(case):
     found = []
     for violation in case.violations:
         if violation not in own:
-            about = case.of_violation(violation)
-            found.append(PolicyExplanation(way_of(about, "19" if is_of_port(about) else "4"), about))
+            found.append(policy_explanation(case.of_violation(violation)))
     return found
+
+
+def policy_explanation(about):
+    """That of the violation that a case is about."""
+    return PolicyExplanation(way_of(about, "19" if is_of_port(about) else "4"), about)
 
 
 def is_of_port(case):

@@ -9,6 +9,12 @@ def violations(case):
              "url": one.url} for one in case.fetch.of("violation")]
 
 
+def told_violations(case):
+    """Each as it is printed, once: a report-only policy is told at the request and at the response."""
+    form = "%(policy)d %(disposition)s %(directive)s %(url)s"
+    return list(dict.fromkeys(form % one for one in violations(case)))
+
+
 def upgrades(case):
     """The URLs that became https, in order, and why."""
     causes = [(hop.asked.partition("#")[0], case.upgrade_of(hop)) for hop in case.hops]

@@ -136,6 +136,7 @@ class Scenario:
         self.data = root.plain()
         self.rules_by = {}
         self.told_by = {}
+        self.mended_by = {}
         self.answers = {}  # of its rules, by the numbers of the server and the rule
 
     def servers(self):
@@ -165,6 +166,16 @@ class Scenario:
             backwards = reversed(list(enumerate(self.servers()[server]["rules"])))
             self.rules_by[server] = {(rule.get("method"), target_of(rule)): index for index, rule in backwards}
         return self.rules_by[server]
+
+    def mended_policies(self, number):
+        """Those of a document, each as it is meant where it is warned of (lints/mending.py)."""
+        if number not in self.mended_by:
+            from commands import lints
+            from commands.lints import mending  # where a policy is violated
+            document = self.documents()[number]
+            asks = lints.Asks(self.root.member("documents").items[number], document).all
+            self.mended_by[number] = mending.of_document(document.get("headers", []), document["url"], asks)
+        return self.mended_by[number]
 
     def told_rules(self, server):
         """Some of the requests that a server has rules for, in words."""

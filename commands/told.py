@@ -16,6 +16,7 @@ class Told:
 
     def __init__(self, scenario, play, answer_of, is_net=False):
         scenario.attach(play)
+        self.scenario = scenario
         self.play = play
         self.cases = []
         hosts, books = named(scenario), {}
@@ -38,20 +39,21 @@ class Told:
             behind.setdefault(case.result.last, []).extend("# " + line for line in own_lines(case))
         for document in self.play.documents:
             wholes = self.whole_policies.get(document.number, [])
-            behind.setdefault(document.last, []).extend("# " + one.line() for one in wholes if one.changes > 1)
+            behind.setdefault(document.last, []).extend("# " + one.line() for one in wholes if one.is_told)
         for number, line in enumerate(self.play.lines, 1):
             yield line, behind.get(number, [])
 
     @functools.cached_property
     def whole_policies(self):
         """By the number of a document each of its policies that has changes, with all of them."""
-        if not any(case.violations for case in self.cases):
-            return {}
-        from commands.whole_policies import whole
         by_document = {}
         for case in self.cases:
             by_document.setdefault(case.fetch.document.number, []).append(case)
-        return {number: whole(cases[0].document.get("headers", []), cases) for number, cases in by_document.items()}
+        known = {number: own for number, own in by_document.items() if own[0].policies}
+        if not known:
+            return {}
+        from commands.whole_policies import whole
+        return {number: whole(self.scenario, number, own) for number, own in known.items()}
 
     def data(self):
         return [case_data(case) for case in self.cases]

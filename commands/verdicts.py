@@ -69,8 +69,13 @@ def line_of(case, is_one_of_many):
 
 def named(case, is_one_of_many):
     """Its name, and what it asks for."""
+    return name_of(case.fetch, is_one_of_many) + asked(case)
+
+
+def asked(case):
+    """What it asks for, as it stands behind its name."""
     kind = " (%s)" % case.fetch.load if case.fetch.load else ""
-    return "%s%s, %s %s" % (name_of(case.fetch, is_one_of_many), kind, method_of(case), shown(url_of(case)))
+    return "%s, %s %s" % (kind, method_of(case), shown(url_of(case)))
 
 
 def name_of(fetch, is_one_of_many):

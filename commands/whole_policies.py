@@ -1,41 +1,84 @@
 """Policies with all changes that are named for them: where several loads violate one, each with a change of its own,
-one text lets all of them pass."""
+one text lets all of them pass. It is built on the text in which the slips that are warned of are mended, and every load
+of the page is asked of that again: what is mended may refuse what passed before."""
 from __future__ import annotations
 
 from collections import namedtuple
 
-from commands import csp
+from commands import csp, edits
+from commands.explanations import policy_explanation
 
 
-class Whole(namedtuple("Whole", "policy enforced value changes")):
-    """A policy of a document by its number, as its text should be; so many different changes were named."""
+class Whole(namedtuple("Whole", "policy enforced text value changes mended besides")):
+    """A policy of a document by its number, with its text and what that should be; so many different changes were
+    named. `besides` are the edits that other things than policies need, with the names of their fetches and loads."""
+
+    @property
+    def is_told(self) -> bool:
+        """Whether it says more than the one change of a load, or than a lint."""
+        return self.value != "" and self.changes + self.mended.slips > 1
 
     def line(self) -> str:
-        return f"in all: let policy {self.policy}{'' if self.enforced else ' (report-only)'} be `{self.value}`"
+        by_phrase: dict[str, list[str]] = {}
+        for name, own in self.besides:
+            by_phrase.setdefault(edits.phrase(own), []).append(name)
+        said = [f"for {edits.listed(names)} {phrase}" for phrase, names in by_phrase.items()]
+        return "in all: " + "; and ".join(([] if self.value == self.text else [self.sentence()]) + said)
+
+    def sentence(self) -> str:
+        last = self.policy + self.mended.joined
+        name = f"policies {self.policy} to {last}, joined," if self.mended.joined else f"policy {self.policy}"
+        told = f"let {name}{'' if self.enforced else ' (report-only)'} be `{self.value}`"
+        if not self.mended.slips:
+            return told
+        how = "" if self.mended.is_right else ", as far as it is known how"
+        return f"{told}, where what is warned of is mended{how}"
+
+    def data(self) -> dict:
+        besides = [{"name": name, "edits": own} for name, own in self.besides]
+        return {"policy": self.policy, "enforced": self.enforced, "value": self.value, "mended": self.mended.slips,
+                "besides": besides}
 
 
-def edits_of(case) -> list[dict]:
-    """The changes of policies that are named for a case."""
-    named = [case.explanation] if case.explanation else []
-    return [edit for one in named + case.policies_told for edit in one.edits if "policy" in edit]
+def whole(scenario, number: int, cases: list, is_wanted=lambda case, policy: True) -> list[Whole]:
+    """Each policy of a document for which there is a change, in order. `is_wanted(case, policy)` says whether a case is
+    to pass the policy of this number."""
+    headers = scenario.documents()[number].get("headers", [])
+    texts, mended = csp.texts(headers), scenario.mended_policies(number)
+    policies = [(enforced, csp.directives(one.text)) for (enforced, _), one in zip(texts, mended)]
+    found: dict[int, Gathered] = {}
+    for case in cases:
+        under = case.under(policies)
+        for violation in under.violations:
+            if is_wanted(case, violation.policy):
+                own = policy_explanation(under.of_violation(violation)).edits
+                found.setdefault(violation.policy, Gathered()).add(case, own)
+    return [found.get(index, Gathered()).whole(index, enforced, text.strip(), mended[index])
+            for index, (enforced, text) in enumerate(texts) if index in found or mended[index].slips]
 
 
-def whole(headers: list[list[str]], cases: list) -> list[Whole]:
-    """Each policy of a document's headers for which a case names a change, in order."""
-    by_policy = {}
-    for edit in (edit for case in cases for edit in edits_of(case)):
-        by_name = by_policy.setdefault(edit["policy"], {})
-        by_name.setdefault(edit["set"], {})[edit["value"]] = None
-    return [changed(number, enforced, text, by_policy[number])
-            for number, (enforced, text) in enumerate(csp.texts(headers)) if number in by_policy]
+class Gathered:
+    """The changes of one policy: values by directives, and what else is to be changed."""
 
+    def __init__(self) -> None:
+        self.by_name: dict[str, dict[str, None]] = {}
+        self.besides: list[tuple[str, list[dict]]] = []
 
-def changed(number: int, enforced: bool, text: str, by_name: dict[str, dict[str, None]]) -> Whole:
-    """The policy with directives by their names, each of which has one or several values that are advised."""
-    own = csp.directives(text)
-    for name, values in by_name.items():
-        text = csp.with_directive(text, name, merged(own.get(name, own.get("default-src", [])), list(values)))
-    return Whole(number, enforced, text, sum(map(len, by_name.values())))
+    def add(self, case, own: list[dict]) -> None:
+        for edit in own:
+            if "policy" in edit:
+                self.by_name.setdefault(edit["set"], {})[edit["value"]] = None
+        others = [edit for edit in own if "policy" not in edit]
+        if others:
+            self.besides.append((case.fetch.name, others))
+
+    def whole(self, number: int, enforced: bool, text: str, mended) -> Whole:
+        """The policy with directives by their names, each of which has one or several values that are advised."""
+        own, value = csp.directives(mended.text), mended.text
+        for name, values in self.by_name.items():
+            value = csp.with_directive(value, name, merged(own.get(name, own.get("default-src", [])), list(values)))
+        changes = sum(map(len, self.by_name.values())) + len(self.besides)
+        return Whole(number, enforced, text, value, changes, mended, self.besides)
 
 
 def merged(there: list[str], values: list[str]) -> str:
