@@ -25,6 +25,12 @@ def names_above(host):
     return [".".join(labels[number:]) for number in range(1, len(labels))]
 
 
+def clock(case):
+    """The time of a fetch, in seconds. What bin/ask is told to know it knows from 0 on."""
+    start = 0 if case.is_direct else int(time.time()) if case.is_net else case.scenario.data.get("now", 0)
+    return start + case.command.waited
+
+
 class Book:
     """What a document has learnt by the fetch that is looked at: of each host when it is known, and which fields were
     ignored."""
@@ -63,7 +69,7 @@ class Book:
         host = host_of(hop.asked)
         if scheme_of(hop.asked) != "http" or case.upgrade_of(hop) or is_trustworthy(hop.asked) or is_address(host):
             return ""
-        now = (int(time.time()) if case.is_net else case.scenario.data.get("now", 0)) + case.command.waited
+        now = clock(case)
         names = [host, *names_above(host)]
         if any(self.covers(name, host) and self.hosts[name].until > now for name in names):
             return self.of_order(case, hop)

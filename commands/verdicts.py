@@ -37,7 +37,7 @@ def told_of(case):
 
 def brief(told):
     """All lines of a play."""
-    return lines(told.cases, len(told.play.documents) > 1)
+    return lines(told.cases, len(told.play.documents) > 1) + policies_in_all(told)
 
 
 def summaries(told):
@@ -49,7 +49,15 @@ def heading(told, most=MOST):
     """What stands above a play: all lines, or those of as many fetches and loads as are soon read."""
     more = len(told.cases) - most
     found = lines(told.cases[:most], len(told.play.documents) > 1)
-    return found + (["and %d more, which --brief lists" % more] if more > 0 else [])
+    return found + (["and %d more, which --brief lists" % more] if more > 0 else []) + policies_in_all(told)
+
+
+def policies_in_all(told):
+    """The policies for which several changes are named, with all of them; with the number of the document, where there
+    are others."""
+    are_many = len(told.play.documents) > 1
+    return [("document %d: " % number if are_many else "") + one.line()
+            for number, own in told.whole_policies.items() for one in own if one.is_told]
 
 
 def lines(cases, is_one_of_many):
