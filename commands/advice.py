@@ -146,8 +146,11 @@ def made_whole(data, told):
             data = made(data, cases[number, name], change)
     data = copy.deepcopy(data)
     for number, document in enumerate(data["documents"]):
-        texts = {one.policy: one.value for one in told.whole_policies.get(number, [])}
+        own = told.whole_policies.get(number, [])
+        texts = {one.policy: one.value for one in own}
         change_policies(document, lambda number, text: texts.get(number, text))
+        for one in filter(lambda one: one.header, own):
+            document["headers"][one.header.at] = [one.header.right, one.value]
     return data
 
 

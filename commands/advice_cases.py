@@ -318,6 +318,10 @@ WHOLE = {
         scenario([fetch(), fetch(CDN + "/x")],
                  headers=[[POLICY, "connect-src 'self' 'self' https://api.test; connect-src https://cdn.test"]]),
         {0: "connect-src 'self' https://api.test https://cdn.test"}),
+    "a header's name that is misspelt": (
+        scenario([fetch(), load("image", IMAGES + "/a.png")],
+                 headers=[["Content-Security-Polcy", "defualt-src 'self'"], [POLICY, "img-src 'self'"]]),
+        {0: "img-src 'self' https://img.test"}),
     "a comma for a blank": (
         scenario([load("image", CDN + "/a.png"), load("image", "/a.png")],
                  headers=[[POLICY, "img-src https://img.test, https://cdn.test"]]),

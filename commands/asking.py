@@ -101,7 +101,8 @@ class Said:
             "fetches": [{**one, **findings.of(case), "summary": line}
                         for one, case, line in zip(self.told.data(), self.told.cases, lines)],
             "policies_in_all": [{"document": number, **one.data()}
-                                for number, own in self.told.whole_policies.items() for one in own]}
+                                for number, own in self.told.whole_policies.items() for one in own
+                                if one.header is None]}
 
     def write(self, name):
         """The verdicts, the warnings, and the play with what is said between its lines."""

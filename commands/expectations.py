@@ -3,8 +3,8 @@ import functools
 import os
 import re
 
-from commands import (asking, csp, edits, findings, json_text, lints, notes, play_text, policy_questions, refusals,
-                      results, running, streams, verdicts)
+from commands import (asking, edits, findings, json_text, lints, notes, play_text, policy_questions, refusals, results,
+                      running, streams, verdicts)
 from commands.asking import Wrong
 from commands.case import CAUSES
 from commands.explanations import TABLE, explain, lines_of
@@ -218,7 +218,7 @@ def whole_lines(scenario, told, passing, is_met):
     for number, document in enumerate(scenario.documents()):
         own = [case for case in told.cases if case.fetch.document.number == number]
         own += [case for of, case, _, _ in passing if of == number and case not in own]
-        if not any(name.lower() in csp.HEADERS for name, _ in document.get("headers", [])):
+        if not (document.get("headers") and any(scenario.mended(number))):
             continue
         from commands.whole_policies import whole
         name = f"document {number}: " if len(scenario.documents()) > 1 else ""

@@ -354,7 +354,7 @@ ON_PURPOSE = {
 # others tell of is mended (lints/mending.py).
 OTHER_TEXT, OTHER_PLACE = "what is meant is not known", "it is no matter of one policy's text"
 UNMENDED = {
-    **dict.fromkeys(["csp/header-misspelt", "csp/header-obsolete", "csp/report-to-unknown"], OTHER_PLACE),
+    "csp/report-to-unknown": OTHER_PLACE,
     **dict.fromkeys(["csp/does-nothing", "csp/report-only-unheard", "csp/no-word", "csp/nonce-characters",
                      "csp/hash-length", "csp/hash-algorithm", "csp/address"], OTHER_TEXT),
     "csp/strict-dynamic-alone": "the scripts of the page say whether a nonce or a hash is meant",

@@ -169,12 +169,21 @@ class Scenario:
 
     def mended_policies(self, number):
         """Those of a document, each as it is meant where it is warned of (lints/mending.py)."""
+        return self.mended(number)[0]
+
+    def unread_policies(self, number):
+        """Those of headers whose name is misspelt."""
+        return self.mended(number)[1]
+
+    def mended(self, number):
+        """Both, once for each document."""
         if number not in self.mended_by:
             from commands import lints
-            from commands.lints import mending  # where a policy is violated
+            from commands.lints import mending  # where there are headers
             document = self.documents()[number]
             asks = lints.Asks(self.root.member("documents").items[number], document).all
-            self.mended_by[number] = mending.of_document(document.get("headers", []), document["url"], asks)
+            given = document.get("headers", []), document["url"], asks
+            self.mended_by[number] = mending.of_document(*given), list(mending.unread(*given))
         return self.mended_by[number]
 
     def told_rules(self, server):

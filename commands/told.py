@@ -49,7 +49,8 @@ class Told:
         by_document = {}
         for case in self.cases:
             by_document.setdefault(case.fetch.document.number, []).append(case)
-        known = {number: own for number, own in by_document.items() if own[0].policies}
+        known = {number: own for number, own in by_document.items()
+                 if own[0].document.get("headers") and (own[0].policies or self.scenario.unread_policies(number))}
         if not known:
             return {}
         from commands.whole_policies import whole

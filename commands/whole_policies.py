@@ -9,9 +9,14 @@ from commands import csp, edits
 from commands.explanations import policy_explanation
 
 
-class Whole(namedtuple("Whole", "policy enforced text value changes mended besides")):
+# The header of a policy that is not read yet: its number, its name and its right name.
+Header = namedtuple("Header", "at name right")
+
+
+class Whole(namedtuple("Whole", "policy enforced text value changes mended besides header", defaults=[None])):
     """A policy of a document by its number, with its text and what that should be; so many different changes were
-    named. `besides` are the edits that other things than policies need, with the names of their fetches and loads."""
+    named. `besides` are the edits that other things than policies need, with the names of their fetches and loads.
+    `header` is that of a policy that is not read yet."""
 
     @property
     def is_told(self) -> bool:
@@ -23,9 +28,12 @@ class Whole(namedtuple("Whole", "policy enforced text value changes mended besid
         for name, own in self.besides:
             by_phrase.setdefault(edits.phrase(own), []).append(name)
         said = [f"for {edits.listed(names)} {phrase}" for phrase, names in by_phrase.items()]
-        return "in all: " + "; and ".join(([] if self.value == self.text else [self.sentence()]) + said)
+        is_same = self.value == self.text and self.header is None
+        return "in all: " + "; and ".join(([] if is_same else [self.sentence()]) + said)
 
     def sentence(self) -> str:
+        if self.header:
+            return f"send `{self.header.right}: {self.value}` in the place of `{self.header.name}`"
         last = self.policy + self.mended.joined
         name = f"policies {self.policy} to {last}, joined," if self.mended.joined else f"policy {self.policy}"
         told = f"let {name}{'' if self.enforced else ' (report-only)'} be `{self.value}`"
@@ -45,16 +53,23 @@ def whole(scenario, number: int, cases: list, is_wanted=lambda case, policy: Tru
     to pass the policy of this number."""
     headers = scenario.documents()[number].get("headers", [])
     texts, mended = csp.texts(headers), scenario.mended_policies(number)
+    unread = scenario.unread_policies(number)
     policies = [(enforced, csp.directives(one.text)) for (enforced, _), one in zip(texts, mended)]
+    policies += [(csp.HEADERS[one.name.lower()], csp.directives(one.mended.text)) for one in unread]
     found: dict[int, Gathered] = {}
     for case in cases:
         under = case.under(policies)
         for violation in under.violations:
-            if is_wanted(case, violation.policy):
+            if violation.policy >= len(texts) or is_wanted(case, violation.policy):
                 own = policy_explanation(under.of_violation(violation)).edits
                 found.setdefault(violation.policy, Gathered()).add(case, own)
-    return [found.get(index, Gathered()).whole(index, enforced, text.strip(), mended[index])
-            for index, (enforced, text) in enumerate(texts) if index in found or mended[index].slips]
+    wholes = [found.get(index, Gathered()).whole(index, enforced, text.strip(), mended[index])
+              for index, (enforced, text) in enumerate(texts) if index in found or mended[index].slips]
+    for index, one in enumerate(unread, len(texts)):
+        name, value = headers[one.at]
+        own = found.get(index, Gathered()).whole(None, policies[index][0], value.strip(), one.mended)
+        wholes.append(own._replace(header=Header(one.at, name, one.name)))
+    return wholes
 
 
 class Gathered:
@@ -72,7 +87,7 @@ class Gathered:
         if others:
             self.besides.append((case.fetch.name, others))
 
-    def whole(self, number: int, enforced: bool, text: str, mended) -> Whole:
+    def whole(self, number: int | None, enforced: bool, text: str, mended) -> Whole:
         """The policy with directives by their names, each of which has one or several values that are advised."""
         own, value = csp.directives(mended.text), mended.text
         for name, values in self.by_name.items():

@@ -8,18 +8,20 @@ from collections import namedtuple
 
 from commands import csp
 from commands.lints import grammar, lints_of
-from commands.lints.csp import comma, is_web_host, widened
+from commands.lints.csp import comma, is_web_host, misspelt_header, obsolete_header, widened
 from commands.lints.entry import DOCUMENT, nearest
 from commands.lints.policies import PASTED, Policy, is_swallowed
-from commands.lints.reading import Field, Headers
+from commands.lints.reading import Field, Headers, topics_of
 
 LONGEST = 8192  # characters: a longer policy stays as it is
 MOST_ROUNDS = 12
 STRAIGHT = str.maketrans("\u2018\u2019\u201a\u201b\u201c\u201d", "''''''")
 
-# A policy as it is meant: its text, how many slips were mended, whether no fault is left, and how many of those behind it
-# belong to it.
+# A policy as it is meant: its text, how many slips were mended, whether no fault is left, and how many of those behind
+# it belong to it.
 Mended = namedtuple("Mended", "text slips is_right joined")
+# The only policy of a header whose name is misspelt: the header's number, its right name, and the policy.
+Unread = namedtuple("Unread", "at name mended")
 
 
 # ---- single words: the words that stand in the place of one; None where what is meant is not known
@@ -158,6 +160,17 @@ def of_document(headers, url, asks):
     known = Headers(DOCUMENT, headers, url, asks)
     return [one for at, (name, value) in enumerate(headers) if name.lower() in csp.HEADERS
             for one in of_header(Field(known, at, name, value))]
+
+
+def unread(headers, url, asks):
+    """The policies that no browser reads yet."""
+    known = Headers(DOCUMENT, headers, url, asks)
+    fields = [Field(known, at, name, value) for at, (name, value) in enumerate(headers) if "csp" in topics_of(name.lower())]
+    for field in fields:
+        name = misspelt_header(field) or obsolete_header(field)
+        own = list(of_header(Field(known, field.at, name, field.value))) if name else []
+        if len(own) == 1:
+            yield Unread(field.at, name, own[0]._replace(slips=own[0].slips + 1))
 
 
 def of_header(field):
