@@ -145,8 +145,8 @@ def answer_named(edits, before):
 
 def of_page(edits, before):
     moved = ["serve the page as %s" % edit["value"] for edit in edits if edit.get("set") == "url"]
-    added = ["serve the page with `%s: %s`, by which all its http URLs become https" % (edit["add"], edit["value"])
-             for edit in edits if "add" in edit]
+    added = ["serve the page with `%s: %s`, by which all that it loads over http is asked for over https" % (
+        edit["add"], edit["value"]) for edit in edits if "add" in edit]
     said = [of_policy(list(own)) for _, own in groupby((edit for edit in edits if "policy" in edit), policy_of)]
     return listed([*moved, *added, *(["let " + listed(said)] if said else [])])
 
