@@ -214,6 +214,11 @@ HOSTS = {
         [load("image", "/i.png"), fetch(UNDER + "/x")],
         [rule(200, [["Strict-Transport-Security", "max-age=600; includeSubDomains"]])], "http://shop.test", page=PLAIN,
         servers=[{"origin": UNDER, "rules": [rule(200, [STAR])]}]),
+    "a host beside a known one": scenario(
+        fetch(UNDER + "/x"), [rule(200, [STAR])], UNDER, page=PLAIN,
+        hsts=[{"host": "api.shop.test", "subdomains": True, "until": 10}]),
+    "mixed content beside a known host": scenario(
+        fetch("http://api.shop.test/x"), [rule(200, [OK])], "https://api.shop.test", hsts=KNOWN["hsts"]),
     "a host that is forgotten": scenario(
         [load("image", PAGE + "/i.png"), fetch("/x")], [rule(200, [["Strict-Transport-Security", "max-age=0"]])], PAGE,
         page=PLAIN, hsts=KNOWN["hsts"], servers=[{"origin": "http://shop.test", "rules": [rule(200)]}]),

@@ -19,6 +19,15 @@ def named(scenario):
     return {one["host"]: Known(one["subdomains"], one["until"]) for one in hosts if one["until"]}
 
 
+def sites(hosts):
+    """One of the hosts of each site, as far as the last two labels tell sites."""
+    return {site_of(host): host for host in hosts}
+
+
+def site_of(host):
+    return ".".join(host.split(".")[-2:])
+
+
 def names_above(host):
     """The names that a host is below."""
     labels = host.split(".")
@@ -35,8 +44,9 @@ class Book:
     """What a document has learnt by the fetch that is looked at: of each host when it is known, and which fields were
     ignored."""
 
-    def __init__(self, hosts):
+    def __init__(self, hosts, by_site):
         self.hosts = ChainMap({}, hosts)
+        self.by_site = ChainMap({}, by_site)
         self.ignored = {}
 
     def reasons(self, case):
@@ -54,6 +64,7 @@ class Book:
     def note(self, host, age, subdomains, _, at):
         if int(age):
             self.hosts[host] = Known(subdomains == "sub", int(at) + int(age))
+            self.by_site[site_of(host)] = host
         elif host in self.hosts:
             self.hosts[host] = self.hosts[host]._replace(until=0)
         self.ignored.pop(host, None)
@@ -71,9 +82,11 @@ class Book:
             return ""
         now = clock(case)
         names = [host, *names_above(host)]
-        if any(self.covers(name, host) and self.hosts[name].until > now for name in names):
-            return self.of_order(case, hop)
-        return self.of_parent(names, now) or self.of_term(names, now) or self.of_field(names)
+        is_known = any(self.covers(name, host) and self.hosts[name].until > now for name in names)
+        if is_known or hop.origin is None:  # what was refused before the list is asked
+            return self.of_order(case, hop) if is_known else ""
+        return (self.of_parent(names, now) or self.of_term(names, now) or self.of_field(names)
+                or self.of_neighbour(host, now))
 
     def covers(self, name, host):
         return name in self.hosts and (name == host or self.hosts[name].subdomains)
@@ -96,6 +109,12 @@ class Book:
         until = self.hosts[ended].until
         how = "until second %d, and it is second %d" % (until, now) if until else "until an answer said max-age=0"
         return "%s was a known host (HSTS) %s" % (ended, how)
+
+    def of_neighbour(self, host, now):
+        other = self.by_site.get(site_of(host))
+        if other is None or self.hosts[other].until <= now:
+            return ""
+        return "%s is a known host (HSTS), and %s is neither that nor below it" % (other, host)
 
     def of_field(self, names):
         name = next((name for name in names if name in self.ignored), None)

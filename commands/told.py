@@ -5,7 +5,7 @@ import functools
 from commands import answers
 from commands.case import Case
 from commands.explanations import explain, explain_policies
-from commands.known_hosts import Book, named
+from commands.known_hosts import Book, named, sites
 from commands.notes import notes
 
 LONGEST = 200  # bytes of a line
@@ -20,10 +20,11 @@ class Told:
         self.play = play
         self.cases = []
         hosts, books = named(scenario), {}
+        by_site = sites(hosts)
         for fetch in play.fetches():
             exchanges = [(request, answer_of(request)) for request in fetch.of("send")]
             case = Case(scenario, fetch, exchanges, is_net)
-            case.plain_reasons = books.setdefault(fetch.document.number, Book(hosts)).reasons(case)
+            case.plain_reasons = books.setdefault(fetch.document.number, Book(hosts, by_site)).reasons(case)
             case.explanation = explain(case)
             case.policies_told = explain_policies(case)
             case.notes = notes(case)
