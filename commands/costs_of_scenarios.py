@@ -51,6 +51,14 @@ def many_words(compare):
     compare("how long that is told", sum(map(len, lines)) < 10000000, True)
 
 
+def many_slips(compare):
+    """Sixty pages with eight policies each, of which every word is a slip."""
+    header = [cases.POLICY + "-Report-Only", "img-src" + " self" * 1500]
+    data = cases.scenario(cases.load("image"), [cases.rule()], headers=[header] * 8)
+    found = said({**data, "documents": data["documents"] * 60})
+    compare("pages whose policies are told", len(found.told.whole_policies), 60)
+
+
 def large_body(compare):
     """500 requests, each with a preflight, to a rule with a body of 3 MB."""
     rules = [cases.rule(404, method="OPTIONS"), cases.rule(body="a" * 3000000)]
@@ -111,6 +119,7 @@ COSTS = [
     ("2,000 rules of a server, and 1,000 requests that meet none", many_rules, 6),
     ("2,000 servers and cookies, and 1,000 requests to others", many_origins, 6),
     ("1,000 loads under a policy of 1,500 words", many_words, 6),
+    ("480 policies of 1,500 slips each", many_slips, 9),
     ("1,000 requests to a rule with a body of 3 MB", large_body, 6),
     ("40,000 equal keys in an object", equal_keys, 9),
     ("numbers of 5,000 and a million digits", long_numbers, 2),

@@ -137,6 +137,7 @@ class Scenario:
         self.rules_by = {}
         self.told_by = {}
         self.mended_by = {}
+        self.budget = None  # of what is mended
         self.answers = {}  # of its rules, by the numbers of the server and the rule
 
     def servers(self):
@@ -179,10 +180,11 @@ class Scenario:
         """Both, once for each document."""
         if number not in self.mended_by:
             from commands import lints
-            from commands.lints import mending  # where there are headers
+            from commands.lints import mending, reading  # where there are headers
+            self.budget = self.budget or reading.Budget()
             document = self.documents()[number]
             asks = lints.Asks(self.root.member("documents").items[number], document).all
-            given = document.get("headers", []), document["url"], asks
+            given = document.get("headers", []), document["url"], asks, self.budget
             self.mended_by[number] = mending.of_document(*given), list(mending.unread(*given))
         return self.mended_by[number]
 

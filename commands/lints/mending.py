@@ -13,7 +13,7 @@ from commands.lints.entry import DOCUMENT, nearest
 from commands.lints.policies import PASTED, Policy, is_swallowed
 from commands.lints.reading import Field, Headers, topics_of
 
-LONGEST = 8192  # characters: a longer policy stays as it is
+LONGEST = 8192  # characters: a header that is longer stays as it is
 MOST_ROUNDS = 12
 STRAIGHT = str.maketrans("\u2018\u2019\u201a\u201b\u201c\u201d", "''''''")
 
@@ -155,22 +155,36 @@ DIRECTIVES = {
 
 # ---- policies
 
-def of_document(headers, url, asks):
-    """All policies of a document's headers, numbered as csp.texts does. `asks` are what its scripts ask for."""
+def of_document(headers, url, asks, budget):
+    """All policies of a document's headers, numbered as csp.texts does. `asks` are what its scripts ask for. Those that
+    are too long for the budget stay as they are."""
     known = Headers(DOCUMENT, headers, url, asks)
-    return [one for at, (name, value) in enumerate(headers) if name.lower() in csp.HEADERS
-            for one in of_header(Field(known, at, name, value))]
+    found = []
+    for at, (name, value) in enumerate(headers):
+        if name.lower() in csp.HEADERS:
+            is_short = len(value) <= LONGEST and budget.takes(name, value)
+            found += of_header(Field(known, at, name, value)) if is_short else as_they_are(value)
+    return found
 
 
-def unread(headers, url, asks):
+def as_they_are(value):
+    """The policies of a header, unmended."""
+    return [Mended(text.strip(), 0, False, 0) for text in value.split(",") if csp.directives(text)]
+
+
+def unread(headers, url, asks, budget):
     """The policies that no browser reads yet."""
     known = Headers(DOCUMENT, headers, url, asks)
-    fields = [Field(known, at, name, value) for at, (name, value) in enumerate(headers) if "csp" in topics_of(name.lower())]
-    for field in fields:
-        name = misspelt_header(field) or obsolete_header(field)
-        own = list(of_header(Field(known, field.at, name, field.value))) if name else []
-        if len(own) == 1:
-            yield Unread(field.at, name, own[0]._replace(slips=own[0].slips + 1))
+    for at, (header, value) in enumerate(headers):
+        name = right_name(Field(known, at, header, value)) if "csp" in topics_of(header.lower()) else None
+        if name and len(value) <= LONGEST and budget.takes(name, value):
+            own = list(of_header(Field(known, at, name, value)))
+            if len(own) == 1:
+                yield Unread(at, name, own[0]._replace(slips=own[0].slips + 1))
+
+
+def right_name(field):
+    return misspelt_header(field) or obsolete_header(field)
 
 
 def of_header(field):
@@ -198,7 +212,7 @@ def joint(policy, is_split):
 def mended(headers, at, name, number, text):
     """One of them, by rounds: what is mended may show another slip."""
     text, slips = text.strip(), 0
-    for _ in range(MOST_ROUNDS if len(text) <= LONGEST else 0):
+    for _ in range(MOST_ROUNDS):
         policy = Policy(Field(headers, at, name, text), number, text)
         count, parts = mended_once(policy, text)
         if count == 0:
