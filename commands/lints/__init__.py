@@ -57,9 +57,10 @@ def lines():
 class Place:
     """A thing of a scenario with the node that it stands in: the list of headers, the raw answer, or the command."""
 
-    def __init__(self, node, things):
+    def __init__(self, node, things, url):
         self.node = node
         self.things = things
+        self.url = url
 
     def of(self, finding):
         """The place of the text."""
@@ -81,15 +82,11 @@ def without_repeats(found):
     notes = set()
     for place in found:
         for finding in found_in(place.things):
+            finding.url = place.url
             if finding.sentence not in notes:
                 yield place.of(finding), finding
             if finding.lint.is_note:
                 notes.add(finding.sentence)
-
-
-def of_scenario(scenario):
-    """Pairs of a place of the text and a sentence."""
-    return [(place, finding.sentence) for place, finding in in_scenario(scenario)]
 
 
 def places(scenario, budget):
@@ -99,9 +96,15 @@ def places(scenario, budget):
     for (node, document), own in zip(pages, asks):
         if node.member("headers"):
             headers = Headers(DOCUMENT, document["headers"], document["url"], own.all)
-            yield Place(node.member("headers"), headers.things(budget))
+            yield Place(node.member("headers"), headers.things(budget), document["url"])
         yield from own.places(budget)
     yield from answer_places(scenario, [ask for own in asks for ask in own.all], budget)
+
+
+def asks_of(scenario):
+    """What all documents' scripts ask for."""
+    nodes = scenario.root.member("documents").items
+    return [ask for node, document in zip(nodes, scenario.documents()) for ask in Asks(node, document).all]
 
 
 class Asks:
@@ -120,10 +123,10 @@ class Asks:
         for kind, node in self.nodes:
             given = node.plain()
             if given.get("integrity"):
-                yield Place(node, [Options(self.page, given, kind == "load")])
+                yield Place(node, [Options(self.page, given, kind == "load")], given["url"])
             if given.get("headers"):
                 headers = Headers(COMMAND, given["headers"], given["url"])
-                yield Place(node.member("headers"), headers.things(budget))
+                yield Place(node.member("headers"), headers.things(budget), given["url"])
 
 
 def commands(script):
@@ -166,7 +169,7 @@ def answer_places(scenario, asks, budget):
             if pairs:
                 headers = Headers(ANSWER, pairs, server["origin"] + rule.get("path", "/"), rules.asks.get(index, []),
                                   rules.preflights.get(index, []))
-                yield Place(item.member("headers") or item.member("raw"), headers.things(budget))
+                yield Place(item.member("headers") or item.member("raw"), headers.things(budget), headers.url)
 
 
 def raw_headers(rule):
@@ -177,13 +180,14 @@ def raw_headers(rule):
 # ---- what real servers answered
 
 def of_answers(told_play):
-    """A URL, a header's name and a sentence for each finding in what real servers answered."""
+    """A URL, a header's name, a sentence and a lint's name for each finding in what real servers answered."""
     found, budget = {}, Budget()
     for case in told_play.cases:
         for request, answer in case.exchanges:
             if answer is not None and answer.head is not None and len(found) < MOST_FOUND:
                 for finding in found_in(headers_of(case, request, answer.head).things(budget)):
-                    found[request.origin + request.target, finding.header, finding.sentence] = None
+                    url = request.origin + request.target
+                    found[url, finding.header, finding.sentence, finding.lint.name] = None
     return list(found)
 
 
@@ -195,6 +199,7 @@ def headers_of(case, request, head):
 
 def notes(told_play):
     """What bin/ask says, of its words and of what was answered."""
-    sentences = [sentence for case in told_play.cases[:1] for _, sentence in of_scenario(case.scenario)]
-    sentences += ["%s: %s: %s" % one for one in of_answers(told_play)]
+    own = [finding for case in told_play.cases[:1] for _, finding in in_scenario(case.scenario)]
+    sentences = ["%s (%s)" % (finding.sentence, finding.lint.name) for finding in own]
+    sentences += ["%s: %s: %s (%s)" % one for one in of_answers(told_play)]
     return list(dict.fromkeys(sentences))

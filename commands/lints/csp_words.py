@@ -259,7 +259,7 @@ def wildcard_path(word):
 def folder(word):
     """A path whose slash is missing: the page loads what stands below it."""
     path = word.host and word.host.group("path")
-    if not path or path.endswith("/"):
+    if not path or path.endswith("/") or word.text + "/" in word.directive.rest:
         return None
     return next((url for url in word.asks() if unquote(urlsplit(url).path).startswith(unquote(path) + "/")), None)
 
