@@ -178,9 +178,7 @@ def origins_without_server(scenario, play, is_net):
 
 
 def place_of(scenario, fetch):
-    node = scenario.root
-    for word in fetch.command.path:
-        node = node.items[word] if isinstance(word, int) else node.member(word)
+    node = scenario.root.at(fetch.command.path)
     return (node.member("url") or node).start
 
 

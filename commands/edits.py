@@ -67,7 +67,7 @@ def body_limit(number):
 
 # ---- sentences
 
-LONGEST = 80  # characters of a value that is replaced
+LONGEST_BEFORE = 80  # characters of a value that is replaced
 REQUEST = {
     "url": "ask for %s",
     "mode": "ask in mode %s",
@@ -90,7 +90,8 @@ def told(edit):
     before = edit.get("replaces")
     if before in (None, edit["value"]):
         return line_of(edit)
-    return "%s in place of `%s`" % (line_of(edit), before if len(before) <= LONGEST else before[:LONGEST] + "..")
+    shown = before if len(before) <= LONGEST_BEFORE else before[:LONGEST_BEFORE] + ".."
+    return "%s in place of `%s`" % (line_of(edit), shown)
 
 
 def listed(texts):

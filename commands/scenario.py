@@ -183,8 +183,7 @@ class Scenario:
             from commands.lints import mending, reading  # where there are headers
             self.budget = self.budget or reading.Budget()
             document = self.documents()[number]
-            asks = lints.Asks(self.root.member("documents").items[number], document).all
-            given = document.get("headers", []), document["url"], asks, self.budget
+            given = document.get("headers", []), document["url"], lints.asks_of(document), self.budget
             self.mended_by[number] = mending.of_document(*given), list(mending.unread(*given))
         return self.mended_by[number]
 
@@ -219,7 +218,7 @@ class Scenario:
         """The origins of the pages that ask for a URL, by its origin and its request target."""
         from commands.lints import asks_of  # which reads this module
         found = {}
-        for ask in asks_of(self):
+        for ask in [ask for document in self.documents() for ask in asks_of(document)]:
             found.setdefault((ask.origin, ask.target), set()).add(ask.page_origin)
         return found
 

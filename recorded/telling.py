@@ -4,7 +4,7 @@ from __future__ import annotations
 
 from typing import Any, Iterator, Optional
 
-from commands.summaries import shown
+from commands.verdicts import shown
 from recorded.differences import STANDARDS
 from recorded.kinds import WITHOUT
 from recorded.verdicts import WORDS
