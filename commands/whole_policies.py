@@ -23,13 +23,17 @@ class Whole(namedtuple("Whole", "policy enforced text value changes mended besid
         """Whether it says more than the one change of a load, or than a lint."""
         return self.value != "" and self.changes + self.mended.slips > 1
 
+    @property
+    def is_same(self) -> bool:
+        """Whether the policy itself stays as it is."""
+        return self.value == self.text and self.header is None
+
     def line(self) -> str:
         by_phrase: dict[str, list[str]] = {}
         for name, own in self.besides:
             by_phrase.setdefault(edits.phrase(own), []).append(name)
         said = [f"for {edits.listed(names)} {phrase}" for phrase, names in by_phrase.items()]
-        is_same = self.value == self.text and self.header is None
-        return "in all: " + "; and ".join(([] if is_same else [self.sentence()]) + said)
+        return "in all: " + "; and ".join(([] if self.is_same else [self.sentence()]) + said)
 
     def sentence(self) -> str:
         if self.header:

@@ -93,9 +93,14 @@ def rule_of(hop: Entry, passing: list[tuple[str, str]], supposed: Supposed) -> d
     """The answer of one hop."""
     if hop.is_hidden and supposed.bare:
         return answer(200, [])
-    if hop.is_hidden or hop.is_still_good or hop.is_from_worker:
+    if is_supposed(hop):
         return answer(200, passing)
     return answer(hop.status, read_of(hop))
+
+
+def is_supposed(hop: Entry) -> bool:
+    """Whether the answer that the page saw is not recorded."""
+    return hop.is_hidden or hop.is_still_good or hop.is_from_worker
 
 
 def preflight_rule(command: Command, hop: Entry, preflight: Optional[Entry], passing: list[tuple[str, str]],
