@@ -74,7 +74,8 @@ WORDS = {
     **dict.fromkeys(["csp/" + name for name in ("quote-missing", "unknown-keyword", "sandbox-word", "trusted-word")],
                     as_written),
     **dict.fromkeys(["csp/" + name for name in (
-        "unsafe-allow-redirects", "nonce-elsewhere", "unsafe-elsewhere", "strict-dynamic-elsewhere", "source-twice")],
+        "unsafe-allow-redirects", "nonce-elsewhere", "unsafe-elsewhere", "strict-dynamic-elsewhere", "source-twice",
+        "source-as-endpoint")],
                     out),
     "csp/trusted-sink": lambda word, meant: ["'script'"], "csp/webrtc-word": of_webrtc, "csp/hash-hex": in_base64,
     "csp/folder-without-slash": with_slash, "csp/wildcard-inside": with_wildcard_in_front,
