@@ -313,6 +313,13 @@ WHOLE = {
     "a name that is misspelt, and refuses nothing yet": (scenario(
         [load("image", IMAGES + "/a.png")], headers=[[POLICY, "defualt-src 'self'"]]),
         {0: "default-src 'self'; img-src 'self' https://img.test"}),
+    "typographic quotes, so that nothing is read yet": (
+        scenario([load("image", IMAGES + "/a.png"), fetch()], headers=[[POLICY, "default-src \u2018self\u2019"]]), {}),
+    "words of scripts in default-src": (
+        scenario([load("image", IMAGES + "/a.png"), load("style", CDN + "/a.css")],
+                 headers=[[POLICY, "default-src 'self' 'unsafe-inline'"]]),
+        {0: "default-src 'self' 'unsafe-inline'; img-src 'self' https://img.test; "
+            "style-src 'self' 'unsafe-inline' https://cdn.test"}),
     "quotes of 'strict-dynamic'": (
         scenario([script(), script(url=CDN + "/x")], headers=[[POLICY, "script-src strict-dynamic https://cdn.test"]]),
         {0: "script-src 'strict-dynamic' https://cdn.test 'nonce-r4nd0m'"}),

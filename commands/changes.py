@@ -220,13 +220,14 @@ def secure_page(c):
 
 def policy_edits(c, words):
     """The directive of the violated policy, or where words are added the one that is to stand beside default-src, with
-    these words; and the directives that stand among its words, since a semicolon is missing."""
+    these words that mean something in it; and the directives that stand among them, since a semicolon is missing."""
     number, own = c.violated.policy, c.policies[c.violated.policy][1]
     decider, there = c.words_to_change
     name = decider if words == there else csp.written_for(decider, c.violated.directive)
     swallowed = [word.lower() for word in own.get(name, [])]
     split = [(one, more) for one, more in c.mended[number].items() if one in swallowed and one not in own]
-    return [edits.policy(number, name, list(dict.fromkeys(words)), name != decider),
+    kept = words if name == decider else csp.meaningful(words, name)
+    return [edits.policy(number, name, list(dict.fromkeys(kept)), name != decider),
             *(edits.policy(number, one, more) for one, more in split)]
 
 

@@ -88,6 +88,16 @@ def written_for(name, effective):
     return name if name != "default-src" else effective.replace("-elem", "")
 
 
+def meaningful(words, name):
+    """Those of default-src that mean something in a directive of this name, too: what stands in quotes, except 'self',
+    does in those of scripts and styles, and 'strict-dynamic' in those of scripts."""
+    if name.startswith("script-src"):
+        return words
+    is_style = name.startswith("style-src")
+    return [word for word in words
+            if not word.startswith("'") or word.lower() == "'self'" or is_style and word.lower() != "'strict-dynamic'"]
+
+
 # ---- whether words let a request pass
 
 def passes(words, asked):

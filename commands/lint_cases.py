@@ -119,6 +119,8 @@ CSP_WORDS = {
     "csp/webrtc-word": (csp_of("webrtc block"), csp_of("webrtc 'block'")),
     "csp/report-over-http": (csp_of("img-src 'self'; report-uri http://shop.test/csp"),
                              csp_of("img-src 'self'; report-uri http://shop.test/csp", url="http://shop.test/")),
+    "csp/source-as-endpoint": (asking("connect-src 'self'; report-uri /csp %s" % API, API + "/v1"),
+                               asking("connect-src 'self'; report-uri /csp %s/csp" % API, API + "/v1")),
     "csp/keyword-unquoted": (csp_of("img-src self"), csp_of("img-src self.test")),
     "csp/nonce-unquoted": (csp_of("script-src nonce-abc"), csp_of("script-src nonce-abc.test")),
     "csp/hash-unquoted": (csp_of("script-src sha256-" + SHA256), csp_of("script-src 'sha256-%s'" % SHA256)),
@@ -296,6 +298,7 @@ TOLD_ONCE = [
     (report_only("default-src 'self' report-uri /csp"), "csp/semicolon-missing"),
     (report_only("default-src 'self'; report-ur /csp"), "csp/unknown-directive"),
     (csp_of("conect-src 'none'"), "csp/unknown-directive"),
+    (csp_of("img-src \u2018self\u2019"), "csp/not-ascii"),
     (asking("connect-src https://api.test/v1 https://api.test/v1/", API + "/v1/cart"), None),
 ]
 

@@ -37,7 +37,8 @@ class Whole(namedtuple("Whole", "policy enforced text value changes mended besid
 
     def sentence(self) -> str:
         if self.header:
-            return f"send `{self.header.right}: {self.value}` in the place of `{self.header.name}`"
+            unread = "" if self.header.right != self.header.name else ", of which nothing is read yet"
+            return f"send `{self.header.right}: {self.value}` in the place of `{self.header.name}`{unread}"
         last = self.policy + self.mended.joined
         name = f"policies {self.policy} to {last}, joined," if self.mended.joined else f"policy {self.policy}"
         told = f"let {name}{'' if self.enforced else ' (report-only)'} be `{self.value}`"

@@ -95,8 +95,9 @@ def does_nothing(policy):
 
 
 def meant_names(policy):
-    """The names of directives that are meant by misspelt ones, which is another lint."""
-    return [nearest(one.name, grammar.SOURCES + grammar.OTHERS) for one in policy.directives if not one.is_known]
+    """The names of directives that are meant by misspelt ones and by those beyond ASCII, which is another lint."""
+    return [one.name if one.is_known else nearest(one.name, grammar.SOURCES + grammar.OTHERS)
+            for one in policy.directives if not (one.is_known and one.text.isascii())]
 
 
 def is_unheard(policy):

@@ -74,7 +74,8 @@ WORDS = {
     **dict.fromkeys(["csp/" + name for name in ("quote-missing", "unknown-keyword", "sandbox-word", "trusted-word")],
                     as_written),
     **dict.fromkeys(["csp/" + name for name in (
-        "unsafe-allow-redirects", "nonce-elsewhere", "unsafe-elsewhere", "strict-dynamic-elsewhere", "source-twice")],
+        "unsafe-allow-redirects", "nonce-elsewhere", "unsafe-elsewhere", "strict-dynamic-elsewhere", "source-twice",
+        "source-as-endpoint")],
                     out),
     "csp/trusted-sink": lambda word, meant: ["'script'"], "csp/webrtc-word": of_webrtc, "csp/hash-hex": in_base64,
     "csp/folder-without-slash": with_slash, "csp/wildcard-inside": with_wildcard_in_front,
@@ -178,13 +179,16 @@ def unread(headers, url, asks, budget):
     for at, (header, value) in enumerate(headers):
         name = right_name(Field(known, at, header, value)) if "csp" in topics_of(header.lower()) else None
         if name and len(value) <= LONGEST and budget.takes(name, value):
-            own = list(of_header(Field(known, at, name, value)))
-            if len(own) == 1:
-                yield Unread(at, name, own[0]._replace(slips=own[0].slips + 1))
+            texts = [policy.own_text for policy in Field(known, at, name, value).policies]
+            own = mended(known, at, name, 0, texts[0]) if len(texts) == 1 else None
+            if own and csp.directives(own.text):
+                yield Unread(at, name, own._replace(slips=own.slips + (name != header)))
 
 
 def right_name(field):
-    return misspelt_header(field) or obsolete_header(field)
+    """That of a header that no browser reads a policy of; its own where no directive is read, as none is in ASCII."""
+    is_idle = field.is_policy and field.value != "" and not any(map(csp.directives, field.value.split(",")))
+    return field.header if is_idle else misspelt_header(field) or obsolete_header(field)
 
 
 def of_header(field):
