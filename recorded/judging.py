@@ -91,11 +91,13 @@ def page_data(page: Page, judged: list[tuple[Part, list[Finding]]], recording: R
 
 
 def policies_of(findings: list[Finding]) -> list[str]:
-    """The page's policies for which several changes are named, with all of them, where a policy refuses something."""
-    cases = [finding.case for finding in findings if finding.case is not None]
-    if not any(one.enforced for case in cases if case.verdict == "refused" for one in case.violations):
+    """The page's policies for which several changes are named, with all of them, where a policy refused something.
+    What parted is left out: the browser did not ask the policy so."""
+    failed = [finding.case for finding in findings if finding.verdict in (verdicts.REFUSED, verdicts.UNREACHED)]
+    if not any(one.enforced for case in failed for one in case.violations):
         return []
-    wholes = whole_policies.whole(cases[0].scenario, 0, cases)
+    passed = [finding.case for finding in findings if finding.verdict == verdicts.PASSED]
+    wholes = whole_policies.whole(failed[0].scenario, 0, failed + passed)
     return [one.sentence() for one in wholes if one.is_told and not one.is_same]
 
 
