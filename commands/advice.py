@@ -28,7 +28,7 @@ UNMADE = {
                     "where the redirect was to lead is not known"),
     **dict.fromkeys(["no-verdict/data", "no-verdict/blob", "no-verdict/websocket"],
                     "this engine does not load it; what a policy is to say stands with the policy"),
-    "redirect/loop": "where the chain was to end is not known",
+    **dict.fromkeys(["redirect/loop", "redirect/cycle"], "where the chain was to end is not known"),
     **dict.fromkeys(["request/long-url", "request/url-bytes", "request/no-url", "request/long-body",
                      "request/long-headers"],
                     "what the page wants to send is its own matter"),
@@ -40,8 +40,8 @@ UNMADE = {
 def step_of(case):
     """The name of the step at which it ends."""
     result, number = case.result, str(case.result.number)
-    if case.verdict == "none" and result.number == 1:
-        return ENDS[-2] if any(one.enforced for one in case.violations) else ENDS[-1]
+    if case.is_unloaded and not case.is_mixed_socket:
+        return ENDS[-1] if case.is_open else ENDS[-2]
     if result.is_fault:
         return "f" + number
     if result.is_refused():
@@ -91,8 +91,8 @@ def places(case, first=0):
 # ---- changes
 
 def advised(case):
-    """All that is named: the explanation's change, and that of each violated policy."""
-    own = list(case.explanation.edits) if case.explanation else []
+    """All that is named: the explanation's change, what is to be exposed besides, and that of each violated policy."""
+    own = [*case.explanation.edits, *case.explanation.exposing] if case.explanation else []
     return own + [edit for policy in case.policies_told for edit in policy.edits if edit not in own]
 
 
@@ -116,25 +116,42 @@ def at_request(data, case, edit):
 
 def at_page(data, case, edit):
     document = data["documents"][case.fetch.document.number]
+    if "add" in edit:
+        document.setdefault("headers", []).append([edit["add"], edit["value"]])
+        return
     if "policy" not in edit:
         document[edit["set"]] = edit["value"]
         return
+    change_policies(document, lambda number, text: csp.with_directive(text, edit["set"], edit["value"])
+                    if number == edit["policy"] else text)
+
+
+def change_policies(document, change):
+    """Puts `change(number, text)` in the place of each policy of a document."""
     number = 0
-    for header in document["headers"]:
+    for header in document.get("headers", []):
         parts = header[1].split(",") if header[0].lower() in csp.HEADERS else []
         for index, part in enumerate(parts):
             if csp.directives(part):
-                if number == edit["policy"]:
-                    parts[index] = with_directive(part, edit["set"], edit["value"])
+                parts[index] = change(number, part)
                 number += 1
         header[1] = ",".join(parts) if parts else header[1]
 
 
-def with_directive(policy, name, value):
-    """A policy with a directive in the place of the one of this name, or behind all."""
-    parts = [part.strip() for part in policy.split(";") if part.strip()]
-    index = next((number for number, part in enumerate(parts) if part.split()[0].lower() == name), len(parts))
-    return "; ".join([*parts[:index], name + " " + value, *parts[index + 1:]])
+def made_whole(data, told):
+    """The scenario with all that the lines `in all` say of policies, and nothing else."""
+    cases = {(case.fetch.document.number, case.fetch.name): case for case in told.cases}
+    for number, own in told.whole_policies.items():
+        for name, change in (pair for one in own for pair in one.besides):
+            data = made(data, cases[number, name], change)
+    data = copy.deepcopy(data)
+    for number, document in enumerate(data["documents"]):
+        own = told.whole_policies.get(number, [])
+        texts = {one.policy: one.value for one in own}
+        change_policies(document, lambda number, text: texts.get(number, text))
+        for one in filter(lambda one: one.header, own):
+            document["headers"][one.header.at] = [one.header.right, one.value]
+    return data
 
 
 def at_scenario(data, case, edit):
@@ -208,7 +225,7 @@ def sentences(case):
 def unsaid(case):
     """Edits of headers and policies that are data alone, and stand in no line."""
     text = sentences(case)
-    own = case.explanation.edits if case.explanation else []
+    own = [*case.explanation.edits, *case.explanation.exposing] if case.explanation else []
     said = [edits.line_of(edit).strip("`") for edit in own if edit["at"] in ("answer", "preflight") and "set" in edit
             and edit["set"] not in ("status", "head", "Content-Length")]
     said += ["%s %s" % (edit["set"], edit["value"]) for edit in own if "policy" in edit]

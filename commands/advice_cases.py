@@ -52,6 +52,10 @@ def script(**more):
     return load("script", **more)
 
 
+# What a page loads: of each kind something of its own and of others, and one that is upgraded.
+EACH_KIND = [*(load(kind, origin + "/" + kind) for kind in ("script", "style", "image", "audio", "font", "manifest")
+               for origin in (PAGE, CDN)),
+             load("image", "http://img.test/i.png"), script(url=CDN + "/n.js", nonce="n1"), fetch("/x"), fetch()]
 CODE = at(API, rule(200, [STAR], "abc"))  # of the digest above
 
 PREFLIGHTS = {
@@ -83,6 +87,10 @@ PREFLIGHTS = {
     "an origin with a slash, JSON and credentials": scenario(
         fetch(**JSON, **INCLUDE), [asked(204, [ALLOW + "Origin", PAGE + "/"]), rule()]),
     "credentials in capitals": scenario(fetch(**PUT, **INCLUDE), [asked(204, OK, [ALLOW + "Credentials", "TRUE"]), rule()]),
+    "a preflight before headers that are not exposed": scenario(
+        fetch(**PUT), [asked(404), rule(200, [["X-Total", "4"], ["Date", "now"], ["ETag", '"1"'], ["Expires", "0"]])]),
+    "a preflight before a header that is asked for": scenario(
+        [fetch(**PUT), fetch("/${header:X-Next}")], [asked(404), rule()]),
     "an upload": scenario(fetch(method="POST", body="a", upload=True), [asked(404), rule()]),
 }
 CORS = {
@@ -96,6 +104,8 @@ CORS = {
     "exposed names of others": answered(OK, exposed("x-page, X-PAGE"), ["X-Total", "4"], ["X-Page", "1"], ["X-Rest", "2"]),
     "an exposed star, credentials and a name": answered(
         OK, TRUE, exposed("*, X-Page"), ["X-Total", "4"], ["X-Page", "1"], **INCLUDE),
+    "a refused answer with headers": answered(exposed("X-Page"), ["X-Total", "4"], ["X-Page", "1"]),
+    "a refused answer that exposes all": answered(exposed("*"), ["X-Total", "4"]),
     "an image that is not shared": scenario(
         load("image", "https://img.shop.test/x"), [rule(200, [OWN])], "https://img.shop.test"),
     "no-cors with a header that is dropped": scenario(fetch(mode="no-cors", **NAMED), [rule(200, [OWN])]),
@@ -125,6 +135,13 @@ CHAINS = {
         script(url=API + "/1", integrity=SCRIPT), [led(CDN + "/2")], **at(CDN, rule(200, body="abc"))),
     "a redirect of a same-origin fetch": scenario(
         fetch("/go", mode="same-origin"), [led(API + "/x")], PAGE, **at(API, rule())),
+    "two that lead to each other": scenario(fetch(), [led(CDN + "/y")], **at(CDN, led(API + "/x"))),
+    "a POST that leads to itself as a GET": scenario(
+        fetch(method="POST", body="a"), [led("/x", 303, method="POST"), rule()]),
+    "preflights that lead to each other": scenario(
+        fetch(**PUT), [led(CDN + "/x", method="OPTIONS"), rule()],
+        **at(CDN, led(API + "/x", method="OPTIONS"), rule())),
+    "a slash that is put there and taken away": scenario(fetch(**PUT), [led("/x/", path="/x"), led("/x", path="/x/")]),
     "an error mode without a Location": answered(OK, status=302, redirect="error"),
     "an opaque redirect to another origin": scenario(
         fetch("/go", redirect="manual"), [led(API + "/x")], PAGE, **at(API, rule())),
@@ -181,7 +198,53 @@ POLICIES = {
         headers=[[POLICY, "connect-src http://h.test:80"], [POLICY, "connect-src 'self'"]],
         hsts=[{"host": "h.test", "subdomains": False, "until": 10}]),
 }
+PLAIN = "http://shop.test/"
+UNDER = "http://www.shop.test"
+# http URLs whose hosts were meant to be known ones.
+HOSTS = {
+    "a parent that covers no name below it": scenario(
+        fetch(UNDER + "/x"), [rule(200, [STAR])], UNDER, page=PLAIN, hsts=KNOWN["hsts"]),
+    "such a parent, and no server over http": scenario(
+        fetch(UNDER + "/x"), [rule(200, [STAR])], "https://www.shop.test", page=PLAIN, hsts=KNOWN["hsts"]),
+    "a field without its semicolon": scenario(
+        [load("image", PAGE + "/i.png"), fetch(UNDER + "/x")],
+        [rule(200, [["Strict-Transport-Security", "max-age=600 includeSubDomains"]])], PAGE, page=PLAIN,
+        servers=[{"origin": UNDER, "rules": [rule(200, [STAR])]}]),
+    "a field that came over http": scenario(
+        [load("image", "/i.png"), fetch(UNDER + "/x")],
+        [rule(200, [["Strict-Transport-Security", "max-age=600; includeSubDomains"]])], "http://shop.test", page=PLAIN,
+        servers=[{"origin": UNDER, "rules": [rule(200, [STAR])]}]),
+    "a host beside a known one": scenario(
+        fetch(UNDER + "/x"), [rule(200, [STAR])], UNDER, page=PLAIN,
+        hsts=[{"host": "api.shop.test", "subdomains": True, "until": 10}]),
+    "mixed content beside a known host": scenario(
+        fetch("http://api.shop.test/x"), [rule(200, [OK])], "https://api.shop.test", hsts=KNOWN["hsts"]),
+    "a host that is forgotten": scenario(
+        [load("image", PAGE + "/i.png"), fetch("/x")], [rule(200, [["Strict-Transport-Security", "max-age=0"]])], PAGE,
+        page=PLAIN, hsts=KNOWN["hsts"], servers=[{"origin": "http://shop.test", "rules": [rule(200)]}]),
+    "a term that has ended": scenario(
+        [{"wait": 20}, fetch(UNDER + "/x")], [rule(200, [STAR])], UNDER, page=PLAIN,
+        hsts=[{"host": "www.shop.test", "subdomains": False, "until": 10}]),
+    "a known host, and mixed content": scenario(
+        fetch("http://api.test/x"), [rule(200, [OK])], hsts=[{"host": "api.test", "subdomains": False, "until": 10}]),
+    "a URL that is upgraded to no server": scenario(
+        fetch("http://api.test/x"), [rule(200, [OK])], "http://api.test",
+        headers=[[POLICY, "upgrade-insecure-requests"]]),
+    "an own address that is upgraded": scenario(
+        fetch("http://127.0.0.1:8080/x"), [rule(200, [OK])], "https://127.0.0.1:8080",
+        headers=[[POLICY, "upgrade-insecure-requests"]]),
+}
 OTHERS = {
+    "an answer behind a preflight": scenario(fetch(**PUT), [rule(204, [OK, methods("PUT")], method="OPTIONS"), rule()]),
+    "a star for a request with a cookie": scenario(
+        fetch(**JSON, **INCLUDE), [rule(404, method="OPTIONS"), rule(200, [STAR])]),
+    "headers at the wrong answer": scenario(fetch(**JSON, **INCLUDE), [
+        rule(204, [OK], method="OPTIONS"),
+        rule(200, [OK, TRUE, methods("PUT"), names("content-type, authorization")])]),
+    "a star over Authorization, with credentials": scenario(
+        fetch(**SECRET, **INCLUDE), allow(TRUE, names("*"))),
+    "two pages that ask": {**scenario(fetch(), [rule(200, [OTHER])]), "documents": [
+        {"url": page, "script": [fetch()]} for page in (PAGE + "/", "https://news.test/")]},
     "a data URL that nothing hinders": scenario(load("image", "data:image/png,a")),
     "a data URL under two policies": scenario(
         load("font", "data:font/woff2,a"), headers=[[POLICY, "default-src 'self'"], [POLICY, "font-src *"]]),
@@ -197,13 +260,95 @@ OTHERS = {
     "a HEAD with an integrity text": answered(OK, body="abc", method="HEAD", integrity=SCRIPT),
     "a script of a table": scenario(
         script(), [rule(200, [["Content-Type", "text/csv"], ["X-Content-Type-Options", "nosniff"]])]),
+    "an error page in the place of a script": scenario(
+        script(), [rule(404, [["Content-Type", "text/html"], ["X-Content-Type-Options", "nosniff"]])]),
     "a length of two": answered(OK, ["Content-Length", "3, 4"], body="abc"),
     "a known host by its whole URL": scenario(fetch("http://shop.test/x", mode="same-origin"), **KNOWN),
+    "mixed content of a host that was known": scenario(
+        [{"wait": 20}, fetch("http://api.test/x")], hsts=[{"host": "api.test", "subdomains": False, "until": 10}]),
     "a user name in the URL": scenario(fetch("https://u:p@api.test/x"), [asked(404), rule()]),
+}
+
+
+# Pages whose loads violate policies in several ways: each with its policies as all changes together make them.
+WHOLE = {
+    "a site's loads": (scenario(
+        [script(url=CDN + "/v1/a.js"), script(url=CDN + "/v2/b.js"), load("style", CDN + "/a.css"),
+         load("image", IMAGES + "/a.png"), load("image", IMAGES + "/b.png"), load("image", "data:image/png,a"),
+         load("font", "https://fonts.test/f"), fetch(), fetch("wss://live.test/x"), fetch("/own"),
+         load("audio", "https://media.test/a"), load("manifest", CDN + "/m.json")],
+        headers=[[POLICY, "default-src 'self'; script-src 'self' https://cdn.test/v1"]]), {
+            0: "default-src 'self'; script-src 'self' https://cdn.test/v1/ https://cdn.test; "
+               "style-src 'self' https://cdn.test; img-src 'self' https://img.test data:; "
+               "font-src 'self' https://fonts.test; "
+               "connect-src 'self' https://api.test wss://live.test; media-src 'self' https://media.test; "
+               "manifest-src 'self' https://cdn.test"}),
+    "three policies": (scenario(
+        [load("image", IMAGES + "/i.png"), load("image", "/i.png"), fetch("/x")],
+        headers=[[POLICY, "default-src 'none'"], [POLICY, "img-src 'self'"],
+                 [REPORT, "default-src https:; img-src self"]]), {
+            0: "default-src 'none'; img-src https://img.test 'self'; connect-src 'self'",
+            1: "img-src 'self' https://img.test", 2: "default-src https:; img-src 'self' https://img.test"}),
+    "nonces of elements": (
+        scenario([script(), script(url=CDN + "/x", nonce="b")], headers=[[POLICY, "script-src 'nonce-a'"]]),
+        {0: "script-src 'nonce-a'"}),
+    "scripts without a nonce": (
+        scenario([script(), script(url=CDN + "/x")], headers=[[POLICY, "script-src 'strict-dynamic'"]]),
+        {0: "script-src 'strict-dynamic' 'nonce-r4nd0m'"}),
+    # What is warned of is mended; and each load is asked of the mended text, which refuses more.
+    "a semicolon, quotes and a slash": (scenario(
+        [script(url=CDN + "/lib/v3/ui.js"), script(url="https://stats.test/t.js"), load("style", "/a.css"),
+         load("style", "https://fonts.test/css"), load("image", "http://img.shop.test/c.gif"), fetch(), fetch("/x")],
+        headers=[[REPORT, "default-src self; script-src 'self' https://cdn.test/lib; img-src *.shop.test; "
+                  "connect-src 'self' https://log.test report-uri https://shop.test/csp"]]), {
+            0: "default-src 'self'; script-src 'self' https://cdn.test/lib/ https://stats.test; img-src *.shop.test; "
+               "connect-src 'self' https://log.test https://api.test; report-uri https://shop.test/csp; "
+               "style-src 'self' https://fonts.test"}),
+    "misspelt names and keywords": (scenario(
+        [script(url="/a.js"), script(url=CDN + "/b.js"), load("style", "/a.css"), load("image", IMAGES + "/a.png"),
+         load("font", "https://fonts.test/f"), fetch()],
+        headers=[[POLICY, "defualt-src 'none'; script-src 'slef' nonce-abc; img-src https://img.test 'none'"]]), {
+            0: "default-src 'none'; script-src 'self' 'nonce-abc'; img-src https://img.test; style-src 'self'; "
+               "font-src https://fonts.test; connect-src https://api.test"}),
+    "a name that is misspelt, and refuses nothing yet": (scenario(
+        [load("image", IMAGES + "/a.png")], headers=[[POLICY, "defualt-src 'self'"]]),
+        {0: "default-src 'self'; img-src 'self' https://img.test"}),
+    "typographic quotes, so that nothing is read yet": (
+        scenario([load("image", IMAGES + "/a.png"), fetch()], headers=[[POLICY, "default-src \u2018self\u2019"]]), {}),
+    "words of scripts in default-src": (
+        scenario([load("image", IMAGES + "/a.png"), load("style", CDN + "/a.css")],
+                 headers=[[POLICY, "default-src 'self' 'unsafe-inline'"]]),
+        {0: "default-src 'self' 'unsafe-inline'; img-src 'self' https://img.test; "
+            "style-src 'self' 'unsafe-inline' https://cdn.test"}),
+    "quotes of 'strict-dynamic'": (
+        scenario([script(), script(url=CDN + "/x")], headers=[[POLICY, "script-src strict-dynamic https://cdn.test"]]),
+        {0: "script-src 'strict-dynamic' https://cdn.test 'nonce-r4nd0m'"}),
+    "a word of a folder, and its own path": (
+        scenario([fetch(API + "/v1"), fetch(API + "/v1/x")], headers=[[POLICY, "connect-src https://api.test/v1"]]),
+        {0: "connect-src https://api.test/v1/ https://api.test/v1"}),
+    "words that stand twice, and a directive": (
+        scenario([fetch(), fetch(CDN + "/x")],
+                 headers=[[POLICY, "connect-src 'self' 'self' https://api.test; connect-src https://cdn.test"]]),
+        {0: "connect-src 'self' https://api.test https://cdn.test"}),
+    "a header's name that is misspelt": (
+        scenario([fetch(), load("image", IMAGES + "/a.png")],
+                 headers=[["Content-Security-Polcy", "defualt-src 'self'"], [POLICY, "img-src 'self'"]]),
+        {0: "img-src 'self' https://img.test"}),
+    "a comma for a blank": (
+        scenario([load("image", CDN + "/a.png"), load("image", "/a.png")],
+                 headers=[[POLICY, "img-src https://img.test, https://cdn.test"]]),
+        {0: "img-src https://img.test https://cdn.test 'self'", 1: ""}),
+    "commas for semicolons": (
+        scenario([load("image", IMAGES + "/a.png"), fetch()],
+                 headers=[[POLICY, "default-src 'none', img-src https://img.test"]]),
+        {0: "default-src 'none'; img-src https://img.test; connect-src https://api.test", 1: ""}),
+    "what a redirect leads to behind what is refused": (
+        scenario([fetch("/go")], [led(API + "/x")], PAGE, headers=[[POLICY, "connect-src 'none'"]],
+                 **at(API, rule(200, [OK]))), {0: "connect-src 'self' https://api.test"}),
 }
 
 
 def scripted():
     """Each by its name."""
-    for group in (PREFLIGHTS, CORS, CHAINS, POLICIES, OTHERS):
+    for group in (PREFLIGHTS, CORS, CHAINS, POLICIES, HOSTS, OTHERS):
         yield from group.items()

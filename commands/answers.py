@@ -67,6 +67,10 @@ class Answer:
         self.problem, self.head = parsed(data)
         self.known_body = None
 
+    @property
+    def is_scripted(self):
+        return self.link is None
+
     def body(self):
         """The body's bytes, as far as they came, by its framing."""
         if self.known_body is None:
@@ -157,14 +161,19 @@ def whole_chunks(data, at, found):
 
 
 def scripted(scenario, request):
-    """The answer of the scenario's servers to a request (docs/scenario.md, "What the servers answer")."""
+    """The answer of the scenario's servers to a request (docs/scenario.md, "What the servers answer"). One rule has one
+    answer, however often it is asked for."""
     server = scenario.server_of(request.origin)
+    index = None if server is None else scenario.rule_of(server, request)
+    if (server, index) not in scenario.answers:
+        scenario.answers[server, index] = Answer(bytes_of(scenario, server, index), server, index)
+    return scenario.answers[server, index]
+
+
+def bytes_of(scenario, server, index):
     if server is None:
-        return Answer(b"")
-    index = scenario.rule_of(server, request)
-    if index is None:
-        return Answer(NO_RULE, server)
-    return Answer(data_of(scenario.servers()[server]["rules"][index]), server, index)
+        return b""
+    return NO_RULE if index is None else data_of(scenario.servers()[server]["rules"][index])
 
 
 def data_of(rule):

@@ -9,7 +9,9 @@ import fiorrudda
 
 from commands import answers, exports, json_text, lints, live, pasted, play_text, told, verdicts
 from commands.ask_words import Wrong
+from commands.case import LOCAL, SOCKETS
 from commands.scenario import Scenario, joined, origin_of
+from commands.urls import scheme_of
 
 LIMIT = 1048576
 KNOWN_FOR = 31536000
@@ -44,7 +46,7 @@ def origin_of_page(given, page):
     try:
         return fiorrudda.origin(page)
     except fiorrudda.FiorruddaError:
-        if not given.page and page.partition(":")[0].lower() in verdicts.NOT_LOADED:
+        if not given.page and scheme_of(page) in (*LOCAL, *SOCKETS):
             raise Wrong("%.200s has no page of its own: name the page that asks by --from" % page) from None
         raise Wrong("%s is no http or https URL%s: write it whole, as https://api.example/x"
                     % (page, " of a page" if given.page else "")) from None
@@ -155,7 +157,7 @@ class Answered:
         scenario = Scenario(json_text.read(json.dumps(self.question.scenario(routes=self.routes()))))
         left = iter(self.wire.exchanges)
         self.told = told.Told(scenario, play_text.read(self.text), lambda request: Came(next(left)), is_net="direct")
-        self.verdict = verdicts.verdict(self.told.cases)
+        self.verdict = verdicts.verdict(self.told.cases, self.question.said.was_navigation)
         if self.question.given.export:
             self.export = exports.Export(self.question, self.told.cases, self.wire.exchanges)
         return self
@@ -181,10 +183,9 @@ class Answered:
         """What is to be said of a body that came coded, though the request said identity."""
         stream = exchange.stream
         if stream.is_opened:
-            yield "%s: the body came as %s all the same: it was decoded, as a browser does it; so Transfer-Encoding stands " \
-                "among the headers that are read here, in the place of Content-Encoding%s" % (
+            yield "%s: the body came as %s all the same: it was decoded, as a browser does it%s" % (
                 exchange.origin, ", ".join(stream.codings), "; " + stream.fault if stream.fault else "")
-        if stream.lacks and any(case.result.number == verdicts.CODING for case in self.told.cases):
+        if stream.lacks and any(case.result.name == "Coding" for case in self.told.cases):
             packages = list(filter(None, map(PACKAGES.get, stream.lacks)))
             yield "%s: %s is not decoded here%s" % (
                 exchange.origin, ", ".join(stream.lacks), ": %s does it" % packages[0] if packages else "")

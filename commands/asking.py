@@ -5,7 +5,7 @@ play."""
 import os
 import sys
 
-from commands import doubts, findings, json_text, lints, play_text, running, streams, summaries, told
+from commands import doubts, findings, json_text, lints, play_text, running, streams, told, verdicts
 from commands.scenario import Scenario
 
 SCHEMA = os.path.join(running.ROOT, "schema", "scenario.schema.json")
@@ -89,26 +89,36 @@ class Said:
     def __init__(self, data, is_net, patience):
         text, self.scenario, self.told = played(data, is_net, patience)
         places, found = json_text.Places(text), doubts.doubts(self.scenario, self.told.play, is_net)
-        self.warnings = [(*places.of(at), sentence) for at, sentence in found]
+        self.warnings = [(*places.of(one.at), one) for one in found]
         self.answer_warnings = lints.of_answers(self.told) if is_net else []
 
     def data(self):
         """As JSON has it; schema/why.schema.json says how."""
-        lines = summaries.brief(self.told)
+        lines = verdicts.summaries(self.told)
         return {
-            "warnings": [dict(zip(("line", "column", "sentence"), warning)) for warning in self.warnings]
-            + [dict(zip(("url", "header", "sentence"), warning)) for warning in self.answer_warnings],
+            "warnings": [{"line": line, "column": column, **data_of(one)} for line, column, one in self.warnings]
+            + [dict(zip(("url", "header", "sentence", "lint"), warning)) for warning in self.answer_warnings],
             "fetches": [{**one, **findings.of(case), "summary": line}
-                        for one, case, line in zip(self.told.data(), self.told.cases, lines)]}
+                        for one, case, line in zip(self.told.data(), self.told.cases, lines)],
+            "policies_in_all": [{"document": number, **one.data()}
+                                for number, own in self.told.whole_policies.items() for one in own
+                                if one.header is None]}
 
     def write(self, name):
         """The verdicts, the warnings, and the play with what is said between its lines."""
-        streams.write_lines("# " + line for line in summaries.heading(self.told))
-        streams.write_lines("# warning: %s:%d:%d: %s" % (name, *warning) for warning in self.warnings)
-        streams.write_lines("# warning: %s: %s: %s" % warning for warning in self.answer_warnings)
+        streams.write_lines("# " + line for line in verdicts.heading(self.told))
+        streams.write_lines("# warning: %s:%d:%d: %s" % (name, line, column, one.told)
+                            for line, column, one in self.warnings)
+        streams.write_lines("# warning: %s: %s: %s (%s)" % warning for warning in self.answer_warnings)
         for line, own in self.told.pieces():
             streams.write_play(line)
             streams.write_lines(own)
+
+
+def data_of(doubt):
+    """A warning as JSON has it: of a lint its name, the header and the URL too."""
+    more = {"lint": doubt.lint, "header": doubt.header, "url": doubt.url} if doubt.lint else {}
+    return {"sentence": doubt.sentence, **more}
 
 
 def why(self, name, data, given):
@@ -122,7 +132,7 @@ def why(self, name, data, given):
     if given.json:
         streams.write_json(found.data())
     elif given.brief:
-        streams.write_lines(summaries.brief(found.told))
+        streams.write_lines(verdicts.brief(found.told))
     else:
         found.write(name)
     return 0

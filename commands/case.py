@@ -8,20 +8,22 @@ from collections import namedtuple
 from functools import cached_property
 from urllib.parse import urlsplit
 
-from commands import answers, csp
+from commands import answers, csp, edits
 from commands.needs import (ALLOW_CREDENTIALS, ALLOW_HEADERS, ALLOW_METHODS, ALLOW_ORIGIN, EXPOSE_HEADERS, TOKEN, Needs,
-                            items_of)
+                            each_once, items_of, missed, unseen)
 from commands.play_text import header_of, is_preflight
 from commands.scenario import joined, origin_of
 from commands.urls import host_of, is_address, is_trustworthy, scheme_of, secure
 
 ALGORITHMS = ("sha256", "sha384", "sha512")
-LIKE_CORS = re.compile(r"ac+es+-cont?rol-", re.I)  # a header of CORS, written right or wrong
 CHUNK_LINE = re.compile(rb"([0-9a-fA-F]{1,16})[^\r\n]*\r\n")
 REDIRECTS = (301, 302, 303, 307, 308)
+MOST_REDIRECTS = 20
 # Schemes that a browser loads by itself, and this engine does not.
 LOCAL = ("data", "blob")
 SOCKETS = ("ws", "wss")
+# What made a URL one of https, in words.
+CAUSES = {"hsts": "HSTS", "policy": "upgrade-insecure-requests", "mixed": "mixed content"}
 # A policy that a request violates: its number and disposition, the effective directive, the URL that it was asked of, and
 # whether a redirect led there, or it was that of the response.
 Violation = namedtuple("Violation", "policy enforced directive url redirected at_response")
@@ -36,6 +38,19 @@ class Hop:
         self.sent = None
         self.origin = None
         self.is_known = False
+
+
+class Request:
+    """One that was not sent, as far as the rules of a scripted server look at it."""
+
+    kind = "send"
+
+    def __init__(self, url, method):
+        parts = urlsplit(url)
+        self.origin = origin_of(url)
+        self.target = (parts.path or "/") + ("?" + parts.query if parts.query else "")
+        self.method = method
+        self.headers = []
 
 
 class Case:
@@ -54,6 +69,9 @@ class Case:
         self.chain = [(request, answer) for request, answer in exchanges if not is_preflight(request)]
         self.document = scenario.documents()[fetch.document.number]
         self.about = None
+        self.plain_reasons = []  # why the URLs of the chain stay http, as known_hosts.py has it
+        self.asked_by_test = []  # the headers that a test wants the script to see
+        self.kept_out = []  # what a test wants the page's policies to be violated by, as csp.Asked
 
     # ---- the page and the request
 
@@ -116,6 +134,21 @@ class Case:
     def next_url(self):
         """The whole URL of the Location."""
         return joined(self.location, self.asked_url) if self.location else ""
+
+    @property
+    def next_differs(self):
+        """How little that URL differs from the one that was asked for; an empty text where it is more."""
+        scheme, _, rest = self.next_url.partition(":")
+        own_scheme, _, own_rest = self.asked_url.partition(":")
+        is_slash = rest != own_rest and rest.rstrip("/") == own_rest.rstrip("/")
+        found = (["a slash at its end"] if is_slash else []) + (["its scheme"] if scheme != own_scheme else [])
+        is_little = self.next_url != "" and (is_slash or rest == own_rest)
+        return ", which differs by %s alone" % " and ".join(found) if is_little and found else ""
+
+    @property
+    def look_for(self):
+        """Why a server redirects, where that is not seen."""
+        return "" if self.next_differs else "; look for https, a slash at the end, or a login"
 
     @property
     def url(self):
@@ -250,18 +283,38 @@ class Case:
         is_asked = is_preflight(self.request)
         names = [name for name in self.asked_headers.split(",") if name] if is_asked else []
         return Needs(self.asked_url, self.origin, self.includes, self.method, names,
-                     self.head if is_asked else None, None if is_asked else self.head, is_asked)
+                     self.head if is_asked else None, self.own_head, is_asked, self.varies)
+
+    @property
+    def varies(self):
+        """Whether pages of other origins ask for the URL of the last request too, or may."""
+        return self.is_net or len(self.scenario.askers.get((self.request.origin, self.request.target), ())) > 1
+
+    @property
+    def and_others(self):
+        """That an origin which is allowed now may ask on."""
+        return "; pages of the other origins go on to get theirs" if self.varies else ""
+
+    @property
+    def the_answer(self):
+        return "the answer to the preflight" if is_preflight(self.request) else "the answer"
+
+    @property
+    def and_vary(self):
+        return "" if self.varies else "; and `Vary: Origin`, where several origins ask"
 
     @property
     def preflight_head(self):
         """The head that answered a preflight at this URL, or would by the scenario's servers; None where it is not known."""
         heads = [answer.head for request, answer in self.exchanges
                  if is_preflight(request) and self.whole(request) == self.asked_url]
-        if heads or self.is_net:
-            return heads[-1] if heads else None
-        request = copy.copy(self.request)
-        request.method = "OPTIONS"
-        return answers.scripted(self.scenario, request).head
+        return heads[-1] if heads else self.head_of("OPTIONS")
+
+    @property
+    def preflighted_url(self):
+        """The URL of the last request, where its preflight was answered; else None."""
+        asked = [self.whole(request) for request, _ in self.exchanges[:-1] if is_preflight(request)]
+        return self.asked_url if asked and asked[-1] == self.asked_url else None
 
     @property
     def is_page_in_small(self):
@@ -274,6 +327,7 @@ class Case:
         needs = copy.copy(self.needs)
         if self.result.number == 10 and self.is_page_in_small:
             needs.method = self.same_method
+            needs.own = self.head_of(self.same_method)
         if self.result.number == 11 and self.result.detail == "user-agent":
             needs.names = [name for name in needs.names if name != "user-agent"]
         return needs
@@ -327,6 +381,24 @@ class Case:
         return csp.numbered(self.document.get("headers", []))
 
     @cached_property
+    def mended(self):
+        """The directives of each policy, with what is warned of in it mended; what is advised is built on them."""
+        return [csp.directives(one.text) for one in self.scenario.mended_policies(self.fetch.document.number)]
+
+    @property
+    def words_to_change(self):
+        """The name of the directive of the violated policy that is to be changed, and its words, mended."""
+        name, words = csp.deciding(self.mended[self.violated.policy], self.violated.directive)
+        return (name, words) if name in self.mended[self.violated.policy] else self.directive
+
+    def under(self, policies):
+        """The same case, where the page has these policies: for each its disposition, and its directives."""
+        case = copy.copy(self)
+        case.policies, case.mended = policies, [policy for _, policy in policies]
+        case.violations = distinct(case.would_violate())
+        return case
+
+    @cached_property
     def violations(self):
         """Each violation that was told, once for each policy and URL; of a URL that is not loaded here those that were."""
         found, hops, number = [], self.hops, 0
@@ -342,15 +414,62 @@ class Case:
         return distinct(self.would_violate() if self.is_unloaded and not self.is_mixed_socket else found)
 
     def would_violate(self):
-        """The policies that would refuse the URL."""
-        effective = csp.EFFECTIVE[self.kind]
-        asked = self.asked_of(Violation(0, True, effective, self.url, False, False))
-        found = []
-        for number, (enforced, policy) in enumerate(self.policies):
-            name, words = csp.deciding(policy, effective)
-            if name in policy and not csp.passes(words, asked):
-                found.append(Violation(number, enforced, effective, self.url, False, False))
+        """The policies that refuse a URL of the chain, or report it."""
+        return [one for one in self.questions() if self.is_violation(one)]
+
+    def questions(self):
+        """Of each URL of the chain each policy, as a violation that there may be. No enforced one is asked of what
+        another rule refuses before."""
+        effective, hops = csp.EFFECTIVE[self.kind], self.hops + self.hops_ahead if self.is_asked_for else []
+        for index, hop in enumerate(hops):
+            is_refused = self.result.number in (2, 3) and hop is self.hops[-1]
+            for number, (enforced, _) in enumerate(self.policies):
+                url = self.upgraded(hop) if enforced else hop.asked
+                if not (enforced and is_refused):
+                    yield Violation(number, enforced, effective, url, index > 0, False)
+        url = self.response_url(hops[-1]) if hops else None
+        for number, (enforced, _) in enumerate(self.policies if url else []):
+            yield Violation(number, enforced, effective, url, len(hops) > 1, True)
+
+    def response_url(self, hop):
+        """The URL of the answer at a hop, or of the one that there would be, did no policy refuse it; None where
+        another rule does."""
+        is_refused = self.result.number == 4 and not self.result.is_fault
+        is_known = any(one["until"] > self.scenario.data.get("now", 0) for one in self.named_hosts(hop.asked))
+        return hop.sent or (secure(hop.asked) if is_refused and is_known else None)
+
+    def named_hosts(self, url):
+        """The known hosts of the scenario, whether they still are or not, that are the URL's."""
+        host = host_of(url)
+        return [one for one in self.scenario.data.get("hsts", [])
+                if host == one["host"] or (one["subdomains"] and host.endswith("." + one["host"]))]
+
+    @cached_property
+    def hops_ahead(self):
+        """The URLs to which the scenario's servers would lead, did no policy refuse the last one."""
+        found, url = [], self.upgraded(self.hops[-1])
+        is_refused = self.result.number == 4 and not self.result.is_fault and not self.is_net
+        url = secure(url) if self.hops[-1].is_known else url
+        request = Request(url, self.method)
+        while is_refused and len(found) < MOST_REDIRECTS and request.origin:
+            answer = answers.scripted(self.scenario, request)
+            if not self.is_followed(answer):
+                break
+            found.append(Hop(joined(answer.head.get("Location"), self.whole(request))))
+            method = self.redirected(request, answer.head.status, found[-1].asked).method
+            request = Request(self.upgraded(found[-1]), method)
         return found
+
+    @property
+    def is_asked_for(self):
+        """Whether a policy is asked of it: it is no fault, and of a scheme that a browser loads."""
+        is_loaded = self.result.number != 1 or (self.is_unloaded and not self.is_mixed_socket)
+        return not self.result.is_fault and is_loaded
+
+    def is_violation(self, violation):
+        policy = self.policies[violation.policy][1]
+        name, words = csp.deciding(policy, violation.directive)
+        return name in policy and not csp.passes(words, self.asked_of(violation))
 
     def asked_of(self, violation):
         """What its policy was asked of."""
@@ -380,7 +499,7 @@ class Case:
     @property
     def directive_text(self):
         name, words = self.directive
-        return " ".join([name, *words])
+        return edits.shortened(" ".join([name, *words]))
 
     @property
     def policy(self):
@@ -403,7 +522,10 @@ class Case:
     @property
     def near_word(self):
         """A word that would match, were it written otherwise."""
-        near = csp.near(self.directive[1], self.policy_asked) or csp.Near("", "", "")
+        return self.near_in(self.directive[1])
+
+    def near_in(self, words):
+        near = csp.near(words, self.policy_asked) or csp.Near("", "", "")
         return near._replace(written=re.sub("^http:", "https:", near.written)) if self.is_secure else near
 
     @property
@@ -431,6 +553,12 @@ class Case:
         return self.unquoted_words[0][1] if self.unquoted_words else ""
 
     @property
+    def then_strict(self):
+        """What 'strict-dynamic' means for the page's other scripts, once it has its quotes."""
+        is_new = self.kind == "script" and "'strict-dynamic'" in [right.lower() for _, right in self.unquoted_words]
+        return "; then no host counts for scripts, and each that a parser inserts needs a nonce or a hash" if is_new else ""
+
+    @property
     def policy_nonces(self):
         return csp.nonces(self.directive[1]) if self.kind in ("script", "style") else []
 
@@ -442,8 +570,9 @@ class Case:
     def common_nonce(self):
         """The nonce that is to stand at the element: its own, where a policy has it, or the first of a policy; or an empty text."""
         effective = csp.EFFECTIVE[self.kind]
-        lists = [csp.deciding(policy, effective)[1] for _, policy in self.policies]
-        found = [nonce for words in lists for nonce in csp.nonces([dict(csp.unquoted(words)).get(word, word) for word in words])]
+        lists = [csp.deciding(policy, effective)[1] for policy in self.mended]
+        mended = [(words, dict(csp.unquoted(words))) for words in lists]
+        found = [nonce for words, right in mended for nonce in csp.nonces([right.get(word, word) for word in words])]
         return self.nonce if self.nonce in found else found[0] if found else ""
 
     @property
@@ -451,6 +580,15 @@ class Case:
         """Whether a report-only policy was asked of a URL that is upgraded behind it, or refused as mixed content."""
         return (not self.violated.enforced and not self.violated.at_response and self.is_secure
                 and scheme_of(self.policy_url) == "http" and not is_trustworthy(self.policy_url))
+
+    @property
+    def is_upgraded_behind(self):
+        """Whether the URL of such a violation becomes https then, and is loaded."""
+        return any(hop.asked == self.policy_url and self.upgrade_of(hop) in ("policy", "mixed") for hop in self.hops)
+
+    @property
+    def while_reporting(self):
+        return ", which it needs while it only reports" if self.is_upgraded_behind else ""
 
     # ---- URLs that this engine does not load
 
@@ -479,11 +617,17 @@ class Case:
         return "let each policy pass it, as follows" if self.violations else "nothing is to be changed"
 
     @property
+    def is_open(self):
+        """Whether a browser goes on where this engine ends, and no policy refuses it."""
+        is_coded = self.result.number == 23 and not self.result.is_fault
+        return is_coded or (self.is_unloaded and not self.is_mixed_socket
+                            and not any(one.enforced for one in self.violations))
+
+    @property
     def verdict(self):
         """In a word: read, refused, hidden (the script sees nothing of the answer), or none."""
         if self.result.is_refused():
-            is_coded = self.result.number == 23 and not self.result.is_fault
-            return "none" if is_coded or (self.is_unloaded and not self.is_mixed_socket) else "refused"
+            return "none" if self.is_open else "refused"
         return "hidden" if self.result.type in ("opaque", "opaqueredirect") else "read"
 
     # ---- the end of a fetch
@@ -538,13 +682,6 @@ class Case:
     def body_limit(self):
         return self.scenario.data.get("body_limit", 1048576) if self.scenario.data.get("format") == 2 else 262144
 
-    @property
-    def hidden(self):
-        """The names of the answer's headers that the script does not see."""
-        seen = {name.lower() for name, _ in self.result.headers}
-        return [name for name, _ in (self.head.headers if self.head else [])
-                if name.lower() not in seen and not name.lower().startswith("access-control-")]
-
     # ---- links
 
     @property
@@ -572,8 +709,10 @@ class Case:
     @property
     def near_server(self):
         """A sentence on what the scenario has for the same host."""
-        told = self.scenario.near_origins(urlsplit(self.request.origin).hostname)
-        return "it has %s" % ", ".join(told) if told else "it has none"
+        host = urlsplit(self.request.origin).hostname
+        told = self.scenario.near_origins(host)
+        where = "of this host it has" if host in self.scenario.origins_by_host else "it has"
+        return "%s %s" % (where, ", ".join(told) or "none")
 
     @property
     def first_bytes(self):
@@ -599,20 +738,79 @@ class Case:
     @property
     def is_next_unanswered(self):
         """Whether the scenario has no rule for the request at the URL to which it is redirected."""
-        server = self.scenario.server_of(origin_of(self.next_url))
+        request = self.redirected(self.request, self.status, self.next_url)
+        server = self.scenario.server_of(request.origin)
         if self.is_net or server is None:
             return not self.is_net
-        request, parts = copy.copy(self.request), urlsplit(self.next_url)
-        request.target = (parts.path or "/") + ("?" + parts.query if parts.query else "")
         return self.scenario.rule_of(server, request) is None
+
+    @cached_property
+    def comes_back(self):
+        """The URL to which the redirect of the last answer leads back: of the chain, or of this preflight. It is
+        followed as the scenario's servers answer; of real ones the next URL alone is known. An empty text where it does
+        not."""
+        been = self.exchanges[-1:] if is_preflight(self.request) else self.chain
+        been = {(request.method, self.whole(request)) for request, _ in been}
+        request, head = self.request, self.head
+        for _ in range(MOST_REDIRECTS):
+            location = (head.get("Location") if head and head.status in REDIRECTS else None) or ""
+            url = joined(location, self.whole(request)) if location else ""
+            if not origin_of(url):
+                return ""
+            request = self.redirected(request, head.status, url)
+            if (request.method, self.whole(request)) in been:
+                return self.whole(request)
+            head = None if self.is_net else answers.scripted(self.scenario, request).head
+        return ""
+
+    @property
+    def back_where(self):
+        is_next = self.comes_back == self.whole(self.redirected(self.request, self.status, self.next_url))
+        return "" if is_next else f" to {self.comes_back}"
+
+    @property
+    def has_no_end(self):
+        """Whether its chain has none. That of real servers may have one by the cookies that they set."""
+        return self.is_followed(self.answer) and self.comes_back != "" and not (self.is_net and self.includes)
+
+    @staticmethod
+    def redirected(request, status, url):
+        """The request of a redirect with this status to this URL, as far as rules look at it."""
+        request, parts = copy.copy(request), urlsplit(url)
+        request.origin = origin_of(url)
+        request.target = (parts.path or "/") + ("?" + parts.query if parts.query else "")
+        becomes_get = status == 303 and request.method != "HEAD" or status in (301, 302) and request.method == "POST"
+        if becomes_get and not is_preflight(request):
+            request.method = "GET"
+        return request
+
+    @property
+    def stays_plain(self):
+        """Why the last URL of the chain stays http, though a host was meant to be known; or an empty text."""
+        return self.plain_reasons[-1] if len(self.plain_reasons) == len(self.hops) else ""
+
+    @property
+    def but_known(self):
+        """That its host is known, where the URL was refused before that was looked up."""
+        return "; " + self.stays_plain if self.stays_plain.startswith("its host is") else ""
+
+    @property
+    def why_scheme(self):
+        """Why https was asked, or http, where that may not be what was meant."""
+        cause = self.upgrade_of(self.hops[-1])
+        if cause:
+            return "the URL became https (%s), and " % CAUSES[cause]
+        return self.stays_plain + "; so http was asked, and " if self.stays_plain else ""
+
+    @property
+    def or_known(self):
+        return "; or see to it that the host is a known one, where https was meant" if self.stays_plain else ""
 
     @property
     def too_late(self):
-        """What is to be said of a known host whose URL was mixed content."""
-        host = host_of(self.url)
-        is_known = any(host == one["host"] or (one["subdomains"] and host.endswith("." + one["host"]))
-                       for one in self.scenario.data.get("hsts", []))
-        return "; that the host is a known one (HSTS) comes too late for this" if is_known else ""
+        """What is to be said of a host that the scenario has as a known one, though it is none any more."""
+        is_named = not self.but_known and self.named_hosts(self.url) != []
+        return "; HSTS does not help, since known hosts are looked up after mixed content" if is_named else ""
 
     @property
     def or_plain(self):
@@ -624,16 +822,43 @@ class Case:
         return header_of(self.request, "Access-Control-Request-Headers") or ""
 
     @property
+    def why_status(self):
+        """What is to be said of an error page in the place of what was asked for."""
+        return f"; but first look why it is {self.status}" if self.status >= 400 else ""
+
+    @property
     def right_type(self):
         return "text/css" if self.kind == "style" else "text/javascript"
 
     @property
     def hidden_names(self):
-        """What a script might miss: not what no script sees, not what belongs to the connection, and no misspelt header of
-        CORS."""
-        never = {"set-cookie", "set-cookie2", "vary", "connection", "transfer-encoding", "date", "server", "keep-alive",
-                 "strict-transport-security", "content-encoding", "x-content-type-options", "cross-origin-resource-policy"}
-        return list(dict.fromkeys(name for name in self.hidden if name.lower() not in never and not LIKE_CORS.match(name)))
+        """The answer's headers that the script does not see, and might miss."""
+        seen = {name.lower() for name, _ in self.result.headers}
+        return each_once(missed(name for name in names_of(self.head) if name.lower() not in seen))
+
+    @property
+    def own_head(self):
+        """The head of the answer to the request itself, also behind a preflight that was refused; None where it is not
+        known."""
+        return self.head_of(self.method) if is_preflight(self.request) else self.head
+
+    def head_of(self, method):
+        """The head that answers this method at the URL of the last request; None where it is not known."""
+        request = copy.copy(self.request)
+        request.method = method
+        return None if self.is_net else answers.scripted(self.scenario, request).head
+
+    @property
+    def unexposed_names(self):
+        """The headers that the script will miss once the answer is read: those of the answer, as far as it is known,
+        and those that its next command or a test asks for. Of an answer that redirects none is read."""
+        head = self.own_head
+        if self.command.is_load or head is not None and head.status in REDIRECTS:
+            return []
+        following = self.fetch.document.fetches[self.fetch.number + 1:][:1]
+        asked = [*self.asked_by_test, *(name for fetch in following for name in fetch.command.headers_of_templates())]
+        exposing = head.get(EXPOSE_HEADERS) if head else None
+        return each_once(unseen(missed(names_of(head)) + asked, exposing, self.includes))
 
     @property
     def hidden_by_cors(self):
@@ -655,6 +880,10 @@ class Case:
     @staticmethod
     def whole(request):
         return request.origin + request.target
+
+
+def names_of(head):
+    return [name for name, _ in head.headers] if head else []
 
 
 def are_whole(data, at):

@@ -64,6 +64,8 @@ CORS = {
     "cors/preflight-status": scenario(fetch(**PUT), [rule(500)]),
     "cors/absent-on-error": answered(status=500),
     "cors/absent-on-redirect": scenario(fetch(), JUMP),
+    "redirect/cycle": scenario(fetch(), [rule(302, [OK, ["Location", "https://cdn.test/y"]])], servers=[
+        {"origin": "https://cdn.test", "rules": [rule(302, [["Location", API + "/x"]])]}]),
     "cors/absent": answered(),
     "cors/several": answered(OK, OK),
     "cors/star-with-credentials": answered(["Access-Control-Allow-Origin", "*"], **INCLUDE),

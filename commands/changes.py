@@ -1,6 +1,7 @@
 """What is to be changed, so that a fetch comes further: of each way all that would do, the best first, as lists of
 edits (edits.py). `c` is the case."""
 import base64
+import copy
 import re
 from urllib.parse import unquote, urlsplit
 
@@ -44,6 +45,11 @@ def ask_secure(c):
     return [lead_to(secure(c.url), c)]
 
 
+def ask_secure_or_upgrade(c):
+    """Or the page has all its URLs upgraded, which says nothing against a server without https."""
+    return ask_secure(c) + [[edits.upgrade_policy()]]
+
+
 def with_scheme(c):
     url = "http://" + c.command.url.strip()
     return [[edits.request("url", over(url, c))]]
@@ -67,7 +73,11 @@ def cors(c):
 
 
 def cors_or_without_credentials(c):
-    return cors(c) + [[without_credentials(c)]]
+    """Without credentials, where nothing else is missing then."""
+    needs = copy.copy(c.needs_told)
+    needs.includes = False
+    is_enough = not (needs.all_edits() if is_preflight(c.request) else needs.own_edits())
+    return cors(c) + ([[without_credentials(c)]] if is_enough else [])
 
 
 def without_credentials(c):
@@ -81,11 +91,12 @@ def cors_or_next_url(c):
 
 
 def next_url_or_cors(c):
-    """The server answers first where the other URL is of another host, as that of a login, or where the scenario answers
-    nothing there."""
+    """The server answers first where the other URL is of another host, as that of a login. Where the scenario answers
+    nothing there, that URL would not do."""
+    if c.is_next_unanswered:
+        return cors(c)
     both = next_url(c) + cors(c)
-    is_better = host_of(c.next_url) == host_of(c.asked_url) and not c.is_next_unanswered
-    return both if is_better else both[::-1]
+    return both if host_of(c.next_url) == host_of(c.asked_url) else both[::-1]
 
 
 def no_rule(c):
@@ -98,18 +109,20 @@ def no_rule(c):
 
 def here(c, name, value):
     """At the last answer."""
-    return (edits.preflight(c.asked_url, name, value) if is_preflight(c.request)
-            else edits.answer(c.request.method, c.asked_url, name, value))
+    before = c.get(name)
+    return (edits.preflight(c.asked_url, name, value, before) if is_preflight(c.request)
+            else edits.answer(c.request.method, c.asked_url, name, value, before))
 
 
 def origin_null(c):
     """The page asks for the last URL itself, and is allowed there; or `*`, where no credentials go along."""
     names = guards.unsafe_names(guards.kept(c.command.headers, "cors"))
     own = None if is_preflight(c.request) else c.head
-    needs = Needs(c.asked_url, c.page_origin, c.includes, c.method, names, c.preflight_head, own, c.has_listener)
+    needs = Needs(c.asked_url, c.page_origin, c.includes, c.method, names, c.preflight_head, own,
+                  c.has_listener, c.varies)
     itself = ask_for(c.asked_url, c) + ([] if origin_of(c.asked_url) == c.page_origin else needs.all_edits())
     star = [{**edit, "value": "*"} if edit["value"] == "null" else edit for edit in cors(c)[0]]
-    is_loop = c.asked_url in [hop.sent for hop in c.hops[:-1]]
+    is_loop = c.asked_url in [hop.sent for hop in c.hops[:-1]] or c.comes_back
     return ([] if is_loop else [itself]) + ([] if c.includes else [star])
 
 
@@ -123,7 +136,8 @@ def in_cors(c):
     """The page asks in mode cors, or with `crossorigin`, for the last URL; and the server allows it."""
     names = guards.unsafe_names(guards.kept(c.command.headers, "cors"))
     includes = c.includes and not c.command.is_load
-    needs = Needs(c.asked_url, c.page_origin, includes, c.method, names, c.preflight_head, c.head, c.has_listener)
+    needs = Needs(c.asked_url, c.page_origin, includes, c.method, names, c.preflight_head, c.head,
+                  c.has_listener, c.varies)
     mode = edits.request("crossorigin", "anonymous") if c.command.is_load else edits.request("mode", "cors")
     return [(ask_for(c.asked_url, c) if len(c.chain) > 1 else []) + [mode] + needs.all_edits()]
 
@@ -139,8 +153,21 @@ def mode_cors(c):
 
 
 def expose(c):
-    known = {name.lower() for name, _ in c.head.headers}
-    return [[here(c, EXPOSE_HEADERS, merged(c.get(EXPOSE_HEADERS), c.hidden_names, True, known))]]
+    return [[here(c, EXPOSE_HEADERS, exposing(c.head, c.hidden_names))]]
+
+
+def expose_too(c):
+    """What is to be exposed besides, so that the script sees the headers of an answer that was refused."""
+    names = c.unexposed_names
+    value = exposing(c.own_head, names)
+    before = c.own_head.get(EXPOSE_HEADERS) if c.own_head else None
+    return [edits.answer(c.needs_told.method, c.asked_url, EXPOSE_HEADERS, value, before)] if names else []
+
+
+def exposing(head, names):
+    """The value that exposes names besides those that are exposed; the head is None where it is not known."""
+    known = {name.lower() for name, _ in head.headers} if head else None
+    return merged(head.get(EXPOSE_HEADERS) if head else None, names, True, known)
 
 
 # ---- redirects
@@ -164,10 +191,10 @@ def follow_or_cors(c):
 
 
 def next_url(c):
-    """The page asks for the URL to which the answer redirects, where that is another one."""
+    """The page asks for the URL to which the answer redirects, where that is another one and does not lead back."""
     url = without_user_info(c.next_url) if origin_of(c.next_url) else None
     is_other = url is not None and url not in [c.asked_url, *(hop.asked for hop in c.hops)]
-    return [ask_for(url, c)] if is_other else []
+    return [ask_for(url, c)] if is_other and not c.comes_back else []
 
 
 def location(value):
@@ -191,14 +218,37 @@ def secure_page(c):
 
 # ---- policies
 
-def policy_edit(c, words):
-    """The violated policy's directive, or the one that is to stand beside default-src, with these words."""
-    name = csp.written_for(c.directive[0], c.violated.directive)
-    return edits.policy(c.violated.policy, name, list(dict.fromkeys(words)), name != c.directive[0])
+def policy_edits(c, words):
+    """The directive of the violated policy, or where words are added the one that is to stand beside default-src, with
+    these words that mean something in it; and the directives that stand among them, since a semicolon is missing."""
+    number, own = c.violated.policy, c.policies[c.violated.policy][1]
+    decider, there = c.words_to_change
+    name = decider if words == there else csp.written_for(decider, c.violated.directive)
+    swallowed = [word.lower() for word in own.get(name, [])]
+    split = [(one, more) for one, more in c.mended[number].items() if one in swallowed and one not in own]
+    kept = words if name == decider else csp.meaningful(words, name)
+    return [edits.policy(number, name, list(dict.fromkeys(kept)), name != decider),
+            *(edits.policy(number, one, more) for one, more in split)]
 
 
 def source_of(c):
-    """The word that lets the URL pass, and no more than its origin."""
+    """The word that lets the URL pass, and no more than its origin; less where a test wants some of that kept out."""
+    return next((word for word in sources_of(c) if not is_kept_out(c, word)), origin_source_of(c))
+
+
+def is_kept_out(c, word):
+    """Whether a word lets pass what a test wants to be kept out."""
+    return any(csp.EFFECTIVE[asked.kind] == c.violated.directive and csp.matches(word, asked) for asked in c.kept_out)
+
+
+def sources_of(c):
+    """The words that let the URL pass: by its origin, its folder and its whole path."""
+    path = re.match("[^?#]*", over(c.policy_url, c)).group().replace(";", "%3B").replace(",", "%2C")
+    narrow = [path[:path.rindex("/") + 1], path] if path.count("/") > 2 else []
+    return [origin_source_of(c), *filter(csp.HOST.fullmatch, narrow)]
+
+
+def origin_source_of(c):
     url = over(c.policy_url, c)
     if origin_of(url) == c.page_origin:
         return "'self'"
@@ -212,9 +262,11 @@ def filled(words):
     return [word for word in words if word.lower() != "'none'"]
 
 
-def quoted(c):
-    changed = dict(csp.unquoted(c.directive[1]))
-    return filled(changed.get(word, word) for word in c.directive[1])
+def own_words(c):
+    """The words that are there, mended where they are warned of, and without 'none'."""
+    words = c.words_to_change[1]
+    changed = dict(csp.unquoted(words))
+    return filled(changed.get(word, word) for word in words)
 
 
 def with_words(c, words):
@@ -223,54 +275,57 @@ def with_words(c, words):
     more = words if csp.passes(words, asked) else [*words, source_of(c)]
     if c.kind == "script" and not csp.passes(more, asked):
         return by_nonce(c, words)
-    return [policy_edit(c, more)]
+    return policy_edits(c, more)
 
 
 def by_nonce(c, words):
     """One nonce at the element and in all policies: a new one where there is none."""
     value = c.common_nonce or "r4nd0m"
     words = words if value in csp.nonces(words) else [*words, "'nonce-%s'" % value]
-    more = [policy_edit(c, words)] if words != c.directive[1] else []
+    more = policy_edits(c, words) if words != c.directive[1] else []
     return more + ([edits.request("nonce", value)] if value != c.nonce else [])
 
 
 def nonce(c):
-    return [by_nonce(c, filled(c.directive[1]))]
+    return [by_nonce(c, own_words(c))]
 
 
 def add_source(c):
-    return [with_words(c, filled(c.directive[1]))]
+    return [with_words(c, own_words(c))]
 
 
 def put_quotes(c):
     """And the policy's nonce at the element, where it has another one."""
-    words = quoted(c)
+    words = own_words(c)
     if c.is_before_upgrade:
-        return [lead_secure(c) + with_words(of_secure(c), words)]
+        return before_upgrade(c)
     is_other = c.kind in ("script", "style") and csp.nonces(words) and not csp.passes(words, c.policy_asked)
     return ([by_nonce(c, words)] if is_other else []) + [with_words(c, words)]
 
 
 def nonce_or_inserted(c):
-    return add_hashes(c) + [by_nonce(c, c.directive[1]), [edits.request("parser", False)]]
+    return add_hashes(c) + [by_nonce(c, own_words(c)), [edits.request("parser", False)]]
 
 
 def nonce_or_source(c):
-    return [by_nonce(c, c.directive[1])] + add_source(c)
+    return [by_nonce(c, own_words(c))] + add_source(c)
 
 
 def add_hashes(c):
     """The digests of the element's integrity text; nothing where it has none."""
     tokens = csp.digests(c.command.options["integrity"])
-    return [[policy_edit(c, filled(c.directive[1]) + ["'%s'" % token for token in tokens])]] if tokens else []
+    return [policy_edits(c, own_words(c) + ["'%s'" % token for token in tokens])] if tokens else []
 
 
 def rewrite(c):
     """The word that comes near, as it was meant. It stays beside that, unless it is no good for anything."""
-    near, words = c.near_word, filled(c.directive[1])
+    words = own_words(c)
+    near = c.near_in(words)
+    if not near.word or csp.passes(words, c.policy_asked) or is_kept_out(c, near.written):
+        return [with_words(c, words)]
     if near.fault in ("path-star", "colon"):
-        return [[policy_edit(c, [near.written if word == near.word else word for word in words])]]
-    return [[policy_edit(c, [*words, near.written])]]
+        return [policy_edits(c, [near.written if word == near.word else word for word in words])]
+    return [policy_edits(c, [*words, near.written])]
 
 
 def secure_or_rewrite(c):
@@ -280,10 +335,11 @@ def secure_or_rewrite(c):
 
 
 def before_upgrade(c):
-    """The page asks over https itself; and the policy lets that."""
-    case = of_secure(c)
-    own = [] if csp.passes(c.directive[1], case.policy_asked) else with_words(case, filled(c.directive[1]))
-    return [lead_secure(c) + own]
+    """The page asks over https itself, and the policy lets that; or the policy has the URL as it is asked for."""
+    case, words = of_secure(c), own_words(c)
+    passes = csp.passes(c.directive[1], case.policy_asked)
+    plain = [policy_edits(c, [*words, origin_of(c.policy_url)])] if c.is_upgraded_behind else []
+    return [lead_secure(c) + ([] if passes else with_words(case, words)), *plain]
 
 
 def of_secure(c):
@@ -310,7 +366,7 @@ def portless(words):
 
 
 def without_port(c):
-    return [[policy_edit(c, portless(c.directive[1]))]]
+    return [policy_edits(c, portless(own_words(c)))]
 
 
 # ---- answers
@@ -336,7 +392,7 @@ def integrity(c):
     """The digest anew, and in the policies that pass the element by it alone."""
     found, effective = [edits.request("integrity", c.right_digest)], csp.EFFECTIVE[c.kind]
     asked = c.asked_of(Violation(0, True, effective, c.asked_url, len(c.chain) > 1, False))
-    for number, (_, policy) in enumerate(c.policies):
+    for number, policy in enumerate(c.mended):
         name, own = csp.deciding(policy, effective)
         if name in policy and csp.passes(own, asked) and not csp.passes(own, asked._replace(integrity=c.right_digest)):
             found.append(edits.policy(number, csp.written_for(name, effective), [*own, "'%s'" % c.right_digest]))

@@ -125,13 +125,14 @@ def decoded(pieces, own):
 
 class Stream:
     """The answer to a request as the engine reads it. `codings` are those of its body, in order; `lacks` those that
-    nothing here decodes. `head` is that which the engine was fed in the place of what came, where it was; `body` is what
-    was decoded, `is_opened` says that the engine asked for it, and `fault` what is wrong in it."""
+    nothing here decodes. `head` is that which the engine was fed in the place of what came, where it was, and `own`
+    what came; `body` is what was decoded, `is_opened` says that the engine asked for it, and `fault` what is wrong in
+    it."""
 
     def __init__(self, receive, method):
         self.method = method
         self.codings, self.lacks = [], []
-        self.head, self.body = None, answers.Pieces()
+        self.head, self.own, self.body = None, None, answers.Pieces()
         self.is_opened = self.is_whole = False
         self.fault = None
         self.ahead = self.run(arriving(receive))
@@ -158,7 +159,7 @@ class Stream:
             yield from pieces
             return
         head, rest = beginning.head, itertools.chain([data[beginning.head.end:]], pieces)
-        framing = framing_of(head)
+        self.own, framing = head, framing_of(head)
         self.head = data[:beginning.start] + plain_head(data[beginning.start:head.end], framing is not None)
         yield self.head
         yield from self.chunked(framing(rest)) if framing else rest

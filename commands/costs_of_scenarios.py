@@ -41,6 +41,32 @@ def many_origins(compare):
     compare("warnings of 2,000 origins", len(found.warnings), 2000)
 
 
+def many_words(compare):
+    """1,000 images, and a policy of 1,500 words that lets none of them pass."""
+    script = [cases.load("image", "https://h%d.test/a" % number) for number in range(1000)]
+    words = " ".join("https://g%d.test" % number for number in range(1500))
+    found = said(cases.policed("img-src " + words, script))
+    compare("what is changed in a policy of 1,500 words", [one.changes for one in found.told.whole_policies[0]], [1000])
+    lines = [line for _, own in found.told.pieces() for line in own]
+    compare("how long that is told", sum(map(len, lines)) < 10000000, True)
+
+
+def many_slips(compare):
+    """Sixty pages with eight policies each, of which every word is a slip."""
+    header = [cases.POLICY + "-Report-Only", "img-src" + " self" * 1500]
+    data = cases.scenario(cases.load("image"), [cases.rule()], headers=[header] * 8)
+    found = said({**data, "documents": data["documents"] * 60})
+    compare("pages whose policies are told", len(found.told.whole_policies), 60)
+
+
+def large_body(compare):
+    """500 requests, each with a preflight, to a rule with a body of 3 MB."""
+    rules = [cases.rule(404, method="OPTIONS"), cases.rule(body="a" * 3000000)]
+    script = [{"repeat": 500, "do": [cases.fetch(), cases.fetch(method="PUT")]}]
+    found = said(cases.scenario(script, rules))
+    compare("the answers that are kept", len({id(answer) for case in found.told.cases for _, answer in case.exchanges}), 2)
+
+
 def equal_keys(compare):
     text = '{"format": 1, "documents": [], %s}' % ",\n".join(['"now": 1'] * 40000)
     compare("warnings of 40,000 equal keys", len(asking.Said(text.encode("utf-8"), False, 20).warnings), 39999)
@@ -92,6 +118,9 @@ def one_call(compare):
 COSTS = [
     ("2,000 rules of a server, and 1,000 requests that meet none", many_rules, 6),
     ("2,000 servers and cookies, and 1,000 requests to others", many_origins, 6),
+    ("1,000 loads under a policy of 1,500 words", many_words, 6),
+    ("480 policies of 1,500 slips each", many_slips, 9),
+    ("1,000 requests to a rule with a body of 3 MB", large_body, 6),
     ("40,000 equal keys in an object", equal_keys, 9),
     ("numbers of 5,000 and a million digits", long_numbers, 2),
     ("commands inside each other, with a wrong word in the deepest", nested_commands, 2),

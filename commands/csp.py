@@ -1,5 +1,6 @@
 """A document's policies as CSP 3 has them: which directive decides, whether its words let a request pass, and which word
 comes near to one that would. docs/rules/csp.md has the rules. They serve for what is said; the engine decides."""
+import functools
 import re
 from collections import namedtuple
 from urllib.parse import unquote_to_bytes, urlsplit
@@ -13,6 +14,7 @@ EFFECTIVE = {"fetch": "connect-src", "image": "img-src", "audio": "media-src", "
 HEADERS = {"content-security-policy": True, "content-security-policy-report-only": False}  # whether it is enforced
 KEYWORDS = ("self", "none", "unsafe-inline", "unsafe-eval", "strict-dynamic", "unsafe-hashes", "report-sample",
             "wasm-unsafe-eval")
+NONCE = re.compile(r"'nonce-[A-Za-z0-9+/_-]+={0,2}'", re.I)
 HASH = r"sha(?:256|384|512)-[A-Za-z0-9+/_-]+={0,2}"
 QUOTED = re.compile("(?:%s|nonce-[A-Za-z0-9+/_-]+={0,2}|%s)" % ("|".join(KEYWORDS), HASH), re.I)
 SCHEME = re.compile(r"([A-Za-z][A-Za-z0-9+.-]*):")
@@ -21,6 +23,7 @@ HOST = re.compile(r"(?:([A-Za-z][A-Za-z0-9+.-]*)://)?"
                   r"(/(?!/)(?:[A-Za-z0-9/\-._~!$&'()*+=:@]|%[0-9A-Fa-f]{2})*)?")
 PORTS = {"http": 80, "https": 443}
 SCHEMES = ("http", "https", "ws", "wss", "data", "blob")
+MOST_LABELS = 127  # of a domain
 # What a scheme of a word matches besides itself.
 WIDER = {"http": ("https",), "ws": ("wss", "http", "https"), "wss": ("https",)}
 
@@ -33,13 +36,18 @@ Near = namedtuple("Near", "fault word written")
 
 # ---- policies
 
-def numbered(headers):
-    """All policies, numbered as docs/rules/csp.md does: of each whether it is enforced, and its directives."""
+def texts(headers):
+    """All policies, numbered as docs/rules/csp.md does: of each whether it is enforced, and its text."""
     found = []
     for name, value in headers:
         if name.lower() in HEADERS:
-            found += [(HEADERS[name.lower()], policy) for policy in map(directives, value.split(",")) if policy]
+            found += [(HEADERS[name.lower()], text) for text in value.split(",") if directives(text)]
     return found
+
+
+def numbered(headers):
+    """The same, with the directives of each."""
+    return [(enforced, directives(text)) for enforced, text in texts(headers)]
 
 
 def policies(headers):
@@ -47,14 +55,22 @@ def policies(headers):
     return [policy for _, policy in numbered(headers)]
 
 
+@functools.lru_cache(64)
 def directives(text):
-    """A map from a directive's name to its words."""
+    """A map from a directive's name to its words, which nobody changes."""
     policy = {}
     for part in text.split(";"):
         words = part.split()
         if words and part.isascii():
             policy.setdefault(words[0].lower(), words[1:])
     return policy
+
+
+def with_directive(text, name, value):
+    """The text of a policy with a directive in the place of the one of this name, or behind all."""
+    parts = [part.strip() for part in text.split(";") if part.strip()]
+    index = next((number for number, part in enumerate(parts) if part.split()[0].lower() == name), len(parts))
+    return "; ".join([*parts[:index], name + " " + value, *parts[index + 1:]])
 
 
 def deciders(effective):
@@ -72,27 +88,69 @@ def written_for(name, effective):
     return name if name != "default-src" else effective.replace("-elem", "")
 
 
+def meaningful(words, name):
+    """Those of default-src that mean something in a directive of this name, too: what stands in quotes, except 'self',
+    does in those of scripts and styles, and 'strict-dynamic' in those of scripts."""
+    if name.startswith("script-src"):
+        return words
+    is_style = name.startswith("style-src")
+    return [word for word in words
+            if not word.startswith("'") or word.lower() == "'self'" or is_style and word.lower() != "'strict-dynamic'"]
+
+
 # ---- whether words let a request pass
 
 def passes(words, asked):
     """The check of a request (docs/rules/csp.md)."""
-    lowered = [word.lower() for word in words]
     if asked.kind in ("script", "style") and asked.nonce and asked.nonce in nonces(words):
         return True
     tokens = digests(asked.integrity) if asked.kind == "script" else []
     if tokens and all(token in hashes(words) for token in tokens):
         return True
-    if asked.kind == "script" and "'strict-dynamic'" in lowered:
+    if asked.kind == "script" and any(word.lower() == "'strict-dynamic'" for word in words):
         return not asked.parser
-    return any(matches(word, asked) for word in words)
+    return any(matches(word, asked) for word in of_host(words, asked.url))
+
+
+def of_host(words, url):
+    """The words that may match a URL, or would if they were written otherwise, in order: a page may ask for a thousand,
+    so each is not compared with all words."""
+    name = parts_of(url).hostname or ""
+    labels = name.split(".")
+    if len(labels) > MOST_LABELS:
+        return words
+    places = ["", "www." + name, *(".".join(labels[start:]) for start in range(len(labels)))]
+    by_place = places_of(tuple(words))
+    return [words[number] for number in sorted({number for place in places for number in by_place.get(place, ())})]
+
+
+@functools.lru_cache(64)
+def places_of(words):
+    """The numbers of words by their places."""
+    found = {}
+    for number, word in enumerate(words):
+        found.setdefault(place_of(word), []).append(number)
+    return found
+
+
+@functools.lru_cache(16384)
+def place_of(word):
+    """The host that a word names, without `*.`; an empty text where it names any, None where it matches no URL."""
+    host = HOST.fullmatch(word)
+    if host is None:
+        return "" if SCHEME.fullmatch(word) or word.lower() == "'self'" else None
+    name = host.group(2).lower()
+    return "" if name == "*" or name in SCHEMES else name.removeprefix("*.")
 
 
 def nonces(words):
-    return [word[7:-1] for word in words if word.lower().startswith("'nonce-") and word.endswith("'")]
+    """Those that are none by the grammar match nothing."""
+    return [word[7:-1] for word in words if NONCE.fullmatch(word)]
 
 
 def hashes(words):
-    return [word[1:7].lower() + word[7:-1] for word in words if re.fullmatch("'%s'" % HASH, word, re.I)]
+    return [word[1:7].lower() + word[7:-1] for word in words
+            if word[1:4].lower() == "sha" and re.fullmatch("'%s'" % HASH, word, re.I)]
 
 
 def digests(integrity):
@@ -113,6 +171,7 @@ def matches(word, asked):
     return host is not None and url.scheme in PORTS and matches_host(host.groups(), url, page, asked.redirected)
 
 
+@functools.lru_cache(1024)
 def parts_of(text):
     """The parts of a URL; empty ones of a text that is none. That of a WebSocket is asked for over http or https
     (Fetch, "establish a WebSocket connection")."""
@@ -164,12 +223,18 @@ def matches_path(path, own):
 
 def unquoted(words):
     """Words that lack their quotes, or have others, each with how it is written."""
+    return unquoted_of(tuple(words))
+
+
+@functools.lru_cache(64)
+def unquoted_of(words):
     return [(word, "'%s'" % word.strip("'\"`")) for word in words
             if QUOTED.fullmatch(word.strip("'\"`")) and not re.fullmatch("'[^'\"`]*'", word)]
 
 
 def near(words, asked):
     """The first word that would match, were it written otherwise, by the likelier mistake; None where there is none."""
+    words = of_host(words, asked.url)
     for fault, rewritten in REWRITTEN:
         for word in words:
             parts = HOST.fullmatch(word)

@@ -1,15 +1,37 @@
 """Warnings: what a scenario may say, and surely is meant otherwise. Each is a place of the text and a sentence. All of them
 take time in proportion to the scenario and its play, however many rules, keys or origins these have."""
+from collections import namedtuple
 from urllib.parse import urlsplit
 
-from commands import lints
+from commands import lints, verdicts
+from commands.urls import host_of, is_trustworthy
 
 METHODS = ("DELETE", "GET", "HEAD", "OPTIONS", "POST", "PUT")
 
 
+# A place of the text, what is said of it, and that in data: the sentence alone, and of a lint its name, the header and
+# the URL whose header it is.
+Doubt = namedtuple("Doubt", "at told sentence lint header url")
+
+
+def plain(at, sentence):
+    return Doubt(at, sentence, sentence, None, None, None)
+
+
 def doubts(scenario, play, is_net):
     """All of them, by their places; `play` is None where it was not played."""
-    found = list(double_keys(scenario.root)) + lints.of_scenario(scenario)
+    own = sorted(set(of_scenario(scenario, play, is_net)))
+    found = [plain(*one) for one in own] + [of_finding(*one) for one in lints.in_scenario(scenario)]
+    return sorted(found, key=lambda one: one[:2])
+
+
+def of_finding(at, finding):
+    return Doubt(at, finding.told(), finding.sentence, finding.lint.name, finding.header, finding.url)
+
+
+def of_scenario(scenario, play, is_net):
+    """Pairs of a place and a sentence."""
+    found = [*double_keys(scenario.root), *pages_of_known_hosts(scenario)]
     if not is_net:
         found += rules_without_use(scenario)
         found += servers_without_use(scenario)
@@ -18,7 +40,7 @@ def doubts(scenario, play, is_net):
         found += cookies_elsewhere(scenario, play)
         if not is_net:
             found += rules_beside(scenario, play)
-    return sorted(set(found))
+    return found
 
 
 def nodes_of(root):
@@ -124,8 +146,19 @@ def folded(path):
 
 # ---- origins
 
-def host_of(origin):
-    return urlsplit(origin).hostname
+def pages_of_known_hosts(scenario):
+    """Documents over http whose host is a known one from the beginning."""
+    hosts, now = scenario.data.get("hsts", []), scenario.data.get("now", 0)
+    exact = {one["host"] for one in hosts if one["until"] > now}
+    wide = {one["host"] for one in hosts if one["until"] > now and one["subdomains"]}
+    for node, document in zip(scenario.root.member("documents").items, scenario.documents()):
+        labels = host_of(document["url"]).split(".")
+        above = {".".join(labels[number:]) for number in range(1, len(labels))}
+        is_known = ".".join(labels) in exact or above & wide
+        if is_known and document["url"].lower().startswith("http:") and not is_trustworthy(document["url"]):
+            yield node.member("url").start, (
+                "the host of this page is a known one (HSTS), and a browser opens it over https: write \"https%s\"" %
+                document["url"][4:])
 
 
 def origins_without_server(scenario, play, is_net):
@@ -139,13 +172,13 @@ def origins_without_server(scenario, play, is_net):
                 told.add(request.origin)
                 near = by_host.get(host_of(request.origin))
                 more = ": there is one of " + near if near else ""
-                yield place_of(scenario, fetch), "%s asks %s, and no %s is of this origin%s" % (fetch.name, request.origin, what, more)
+                name = verdicts.name_of(fetch, len(play.documents) > 1)
+                yield place_of(scenario, fetch), "%s asks %s, and no %s is of this origin%s" % (
+                    name, request.origin, what, more)
 
 
 def place_of(scenario, fetch):
-    node = scenario.root
-    for word in fetch.command.path:
-        node = node.items[word] if isinstance(word, int) else node.member(word)
+    node = scenario.root.at(fetch.command.path)
     return (node.member("url") or node).start
 
 

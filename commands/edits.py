@@ -4,20 +4,30 @@ answer, page, request or scenario), and `set`, `remove` or `add` what, with its 
 
     {"at": "answer", "method": "PUT", "url": "https://api.test/x", "set": "Content-Type", "value": "text/css"}
     {"at": "preflight", "method": "OPTIONS", "url": "https://api.test/x", "set": "status", "value": 204}
+    {"at": "answer", "method": "GET", "url": "https://api.test/x", "set": "Vary", "value": "A, Origin", "replaces": "A"}
     {"at": "page", "policy": 0, "set": "connect-src", "value": "'self' https://api.test"}
+    {"at": "page", "add": "Content-Security-Policy", "value": "upgrade-insecure-requests"}
     {"at": "request", "set": "mode", "value": "cors"}
     {"at": "scenario", "set": "body_limit", "value": 1048576}
 
 `commands/advice.py` makes each of them."""
 from itertools import groupby
 
+LONGEST = 4096  # characters of a directive in a sentence
+ENDS = 1000  # of a longer one so many stand there of its beginning and of its end
 
-def preflight(url, name, value):
-    return {"at": "preflight", "method": "OPTIONS", "url": url, "set": name, "value": value}
+
+def preflight(url, name, value, before=None):
+    return {"at": "preflight", "method": "OPTIONS", "url": url, "set": name, "value": value, **replacing(before)}
 
 
-def answer(method, url, name, value):
-    return {"at": "answer", "method": method, "url": url, "set": name, "value": value}
+def answer(method, url, name, value, before=None):
+    return {"at": "answer", "method": method, "url": url, "set": name, "value": value, **replacing(before)}
+
+
+def replacing(before):
+    """What an edit says of the value that the header has."""
+    return {} if before is None else {"replaces": before}
 
 
 def without(method, url, name):
@@ -32,6 +42,11 @@ def policy(number, name, words, is_new=False):
 
 def page(name, value):
     return {"at": "page", "set": name, "value": value}
+
+
+def upgrade_policy():
+    """A policy beside those that are there."""
+    return {"at": "page", "add": "Content-Security-Policy", "value": "upgrade-insecure-requests"}
 
 
 def request(name, value):
@@ -52,10 +67,11 @@ def body_limit(number):
 
 # ---- sentences
 
+LONGEST_BEFORE = 80  # characters of a value that is replaced
 REQUEST = {
     "url": "ask for %s",
     "mode": "ask in mode %s",
-    "credentials": "ask with `credentials` `%s`",
+    "credentials": "ask with `credentials` `%s`, where the server needs no cookie",
     "redirect": "ask with `redirect` `%s`",
     "method": "use the method %s",
     "crossorigin": "write `crossorigin=\"%s\"` at the element",
@@ -69,6 +85,15 @@ def line_of(edit):
     return "`%s: %s`" % (edit["set"], edit["value"])
 
 
+def told(edit):
+    """The same, and what stands in its place now."""
+    before = edit.get("replaces")
+    if before in (None, edit["value"]):
+        return line_of(edit)
+    shown = before if len(before) <= LONGEST_BEFORE else before[:LONGEST_BEFORE] + ".."
+    return "%s in place of `%s`" % (line_of(edit), shown)
+
+
 def listed(texts):
     texts = list(texts)
     return " and ".join(filter(None, [", ".join(texts[:-1]), texts[-1]]))
@@ -78,49 +103,73 @@ def place(edit):
     return edit["at"], edit.get("method"), edit.get("url")
 
 
-def sentence(changes):
-    """All ways to change it, each of which is a list of edits."""
-    return "; or ".join(filter(None, map(phrase, changes)))
+def sentence(changes, asked=None):
+    """All ways to change it, each of which is a list of edits. `asked` is a URL whose preflight was answered: of the
+    answer to its request is said which one it is."""
+    return "; or ".join(filter(None, (phrase(one, asked) for one in changes)))
 
 
-def phrase(edits):
+def phrase(edits, asked=None):
     """One of them. Edits of one place stand together."""
-    parts = []
+    parts, before = [], asked
     for where, group in groupby(edits, place):
-        parts.append(PHRASES[where[0]](list(group), is_first=not parts))
+        group = list(group)
+        parts.append(PHRASES[where[0]](group, before))
+        before = group[0].get("url", "")
     return ", and ".join(parts)
 
 
-def of_preflight(edits, is_first):
+def of_preflight(edits, before):
     status = [edit["value"] for edit in edits if edit["set"] == "status"]
-    lines = [line_of(edit) for edit in edits if edit["set"] != "status"]
-    if is_first and not status:
-        return "send " + listed(lines)
+    lines = [told(edit) for edit in edits if edit["set"] != "status"]
+    if before is None and not status:
+        return "send %s with the answer to OPTIONS" % listed(lines)
     return "answer OPTIONS at %s with %s" % (edits[0]["url"], listed(map(str, [*status, *lines])))
 
 
-def of_answer(edits, is_first):
-    is_here = is_first and all(edit.get("set") != "Location" for edit in edits)
-    where = "" if is_here else " with the answer of %s" % edits[0]["url"]
+def of_answer(edits, before):
+    where = answer_named(edits, before)
     gone = ["leave `%s` out" % edit["remove"] for edit in edits if "remove" in edit]
     status = ["answer with %d" % edit["value"] for edit in edits if edit.get("set") == "status"]
-    lines = [line_of(edit) for edit in edits if edit.get("set", "status") not in ("status", "head")]
+    lines = [told(edit) for edit in edits if edit.get("set", "status") not in ("status", "head")]
     head = ["send a head that is one" for edit in edits if edit.get("set") == "head"]
     return listed([*gone, *status, *head, *(["send %s%s" % (listed(lines), where)] if lines else [])])
 
 
-def of_page(edits, is_first):
-    said = [of_policy(edit) for edit in edits if "policy" in edit]
-    moved = ["serve the page as %s" % edit["value"] for edit in edits if "policy" not in edit]
-    return listed([*moved, *(["let " + listed(said)] if said else [])])
+def answer_named(edits, before):
+    """Which answer it is, where another one was told of; `before` is the URL of that, or None."""
+    if before is None and all(edit.get("set") != "Location" for edit in edits):
+        return ""
+    is_same = before == edits[0]["url"]
+    return " with the answer to %s%s" % (edits[0]["method"], "" if is_same else " at " + edits[0]["url"])
 
 
-def of_policy(edit):
-    said = "policy %d say `%s %s`" % (edit["policy"], edit["set"], edit["value"])
-    return said + " beside its `%s`" % edit["beside"] if "beside" in edit else said
+def of_page(edits, before):
+    moved = ["serve the page as %s" % edit["value"] for edit in edits if edit.get("set") == "url"]
+    added = ["serve the page with `%s: %s`, by which all that it loads over http is asked for over https" % (
+        edit["add"], edit["value"]) for edit in edits if "add" in edit]
+    said = [of_policy(list(own)) for _, own in groupby((edit for edit in edits if "policy" in edit), policy_of)]
+    return listed([*moved, *added, *(["let " + listed(said)] if said else [])])
 
 
-def of_request(edits, is_first):
+def shortened(text):
+    """A directive as a sentence has it; the data have all of it."""
+    return text if len(text) <= LONGEST else f"{text[:ENDS]} .. {text[-ENDS:]}"
+
+
+def policy_of(edit):
+    return edit["policy"]
+
+
+def of_policy(edits):
+    """The directives of one policy."""
+    directives = "; ".join("%s %s" % (one["set"], shortened(one["value"])) for one in edits)
+    said = "policy %d say `%s`" % (edits[0]["policy"], directives)
+    beside = [one["beside"] for one in edits if "beside" in one]
+    return said + " beside its `%s`" % beside[0] if beside else said
+
+
+def of_request(edits, before):
     return listed(map(of_one_request, edits))
 
 
@@ -137,7 +186,7 @@ def of_one_request(edit):
     return REQUEST[edit["set"]] % edit["value"]
 
 
-def of_scenario(edits, is_first):
+def of_scenario(edits, before):
     added = ["add a server %s" % edit["value"]["origin"] for edit in edits if edit.get("add") == "server"]
     set_to = ["set `%s` to %d, in format 2" % (edit["set"], edit["value"]) for edit in edits if "set" in edit]
     return listed(added + set_to)

@@ -3,15 +3,18 @@ import functools
 import os
 import re
 
-from commands import (asking, findings, json_text, lints, play_text, policy_questions, refusals, results, running,
-                      streams)
+from commands import (asking, edits, findings, json_text, lints, notes, play_text, policy_questions, refusals, results,
+                      running, streams, verdicts)
 from commands.asking import Wrong
-from commands.explanations import TABLE
+from commands.case import CAUSES
+from commands.explanations import TABLE, explain, lines_of
 from commands.schema import Schema
 
 SCHEMA = os.path.join(running.ROOT, "schema", "expect.schema.json")
 WAYS = [way.name for way in TABLE]
 OTHERS = ("sent", "never sent", *policy_questions.KEYS)  # the keys of `expect` that name no fetch
+MOST_UNNAMED = 20  # lines
+ONLY_STRICT = "all came as expected; --strict alone makes it `not ok`, for these warnings:"
 KEY = re.compile(r"(?:document ([0-9]{1,3}) )?(fetch|load) ([0-9]{1,4})")
 DIRECTIVES = ["connect-src", "img-src", "media-src", "font-src", "manifest-src", "style-src-elem", "script-src-elem"]
 # As a play prints it behind the word violation, as far as a test says it.
@@ -87,9 +90,13 @@ def of_items(value, place, problem):
 
 
 def of_outcome(place, value):
-    yield from of_items(value if value.kind == "string" else value.member("result"), place, result_problem)
-    if value.kind == "object":
-        for name, problem in (("why", way_problem), ("violations", violation_problem)):
+    if value.kind == "string":
+        yield from of_items(value, place, result_problem)
+    elif not value.members:
+        names = ", ".join('"%s"' % name for name in LOOKS)
+        yield value, place, 'nothing is looked at here: write "result", or one of ' + names
+    else:
+        for name, problem in (("result", result_problem), ("why", way_problem), ("violations", violation_problem)):
             if value.member(name) is not None:
                 yield from of_items(value.member(name), "%s/%s" % (place, name), problem)
 
@@ -152,26 +159,76 @@ def outcome(path, data, is_net, patience, is_strict=False):
 def outcome_of(test, is_net, patience, is_strict):
     try:
         text, scenario, told = asking.played(test.scenario, is_net, patience)
-        lines = [*differences(test.expect, told), *policy_questions.differences(test.expect, scenario)]
+        passing = []
+        kept_out = policy_questions.kept_out(test.expect, scenario.documents())
+        for case in told.cases:
+            policy_questions.keep_out(case, kept_out.get(case.fetch.document.number))
+        lines = list(differences(test.expect, told, passing))
+        lines += policy_questions.differences(test.expect, scenario, kept_out, passing)
+        wholes = list(whole_lines(scenario, told, passing, is_met=not lines))
     except Wrong as wrong:
         return Outcome(test.name, wrong.refusal.told(test.scenario_name))
     except (running.Failed, play_text.NoPlay) as failure:
         return Outcome(test.name, [str(failure)])
     warned = list(warnings(text, scenario, told, test.scenario_name, is_net))
+    warned += [(line, True) for line in unnamed(test.expect, told)] if is_strict else []
     faults = [line for line, is_fault in warned if is_fault and is_strict]
-    return Outcome(test.name, lines + faults, [line for line, _ in warned])
+    by_strict = [ONLY_STRICT] if faults and not lines else []
+    return Outcome(test.name, lines + (wholes if lines else []) + by_strict + faults,
+                   [*(line for line, _ in warned), *wholes])
 
 
 def warnings(text, scenario, told, name, is_net):
     """Lines, and of each whether it tells a fault: a note of what a play does not look at is none."""
     places = json_text.Places(text)
     for place, finding in lints.in_scenario(scenario):
-        yield "warning: %s:%d:%d: %s" % (name, *places.of(place), finding.sentence), not finding.lint.is_note
+        yield "warning: %s:%d:%d: %s" % (name, *places.of(place), finding.told()), not finding.lint.is_note
     for one in lints.of_answers(told) if is_net else []:
-        yield "warning: %s: %s: %s" % one, True
+        yield "warning: %s: %s: %s (%s)" % one, True
 
 
-def differences(expect, told):
+def fetch_of(key):
+    """The number of the document and the name of the fetch or load that a key names; None of one of OTHERS."""
+    found = KEY.fullmatch(key)
+    return (int(found.group(1) or 0), "%s %d" % (found.group(2), int(found.group(3)))) if found else None
+
+
+def unnamed(expect, told):
+    """A line for each fetch and load that no key of a test names, up to MOST_UNNAMED: nothing was compared there."""
+    named = set(map(fetch_of, expect))
+    left = [case for case in told.cases if (case.fetch.document.number, case.fetch.name) not in named]
+    are_many = len(told.play.documents) > 1
+    for case in left[:MOST_UNNAMED]:
+        yield f'warning: {verdicts.named(case, are_many)}: the test does not name it: ' \
+              f'add "{verdicts.name_of(case.fetch, are_many)}": "{case.result.short()}", if that is meant'
+    if len(left) > MOST_UNNAMED:
+        yield f"warning: {len(left) - MOST_UNNAMED} more fetches and loads are not named: add them"
+
+
+def whole_lines(scenario, told, passing, is_met):
+    """The policies that let all pass which is to pass, where one has several changes; of a test that is met those that
+    are warned of."""
+    wanted = {id(case): (enforced, reported) for _, case, enforced, reported in passing}
+
+    def is_wanted(case, policy):
+        """Also what has passed until now, and what is warned of would hinder once it is mended."""
+        is_enforced = case.policies[policy][0]
+        has_passed = all(one.policy != policy for one in case.violations)
+        return has_passed or wanted.get(id(case), (False, False))[0 if is_enforced else 1]
+    for number, document in enumerate(scenario.documents()):
+        own = [case for case in told.cases if case.fetch.document.number == number]
+        own += [case for of, case, _, _ in passing if of == number and case not in own]
+        if not (document.get("headers") and any(scenario.mended(number))):
+            continue
+        from commands.whole_policies import whole
+        name = f"document {number}: " if len(scenario.documents()) > 1 else ""
+        for one in whole(scenario, number, own, is_wanted):
+            if one.is_told and (one.mended.slips or not is_met):
+                yield name + one.line()
+
+
+def differences(expect, told, passing):
+    """Lines for all that came otherwise. What a policy is to let pass is added to `passing`, as by policy_questions."""
     cases = {(case.fetch.document.number, case.fetch.name): case for case in told.cases}
     for key, wanted in expect.items():
         if key == "sent":
@@ -179,7 +236,7 @@ def differences(expect, told):
         elif key == "never sent":
             yield from unwanted(told, listed(wanted))
         elif key not in policy_questions.KEYS:
-            yield from of_fetch(key, wanted, cases)
+            yield from of_fetch(key, wanted, cases, passing)
 
 
 def listed(wanted):
@@ -214,27 +271,35 @@ def unwanted(told, wanted):
 
 # ---- one fetch
 
-def of_fetch(key, wanted, cases):
-    document, kind, number = KEY.fullmatch(key).groups()
-    case = cases.get((int(document or 0), "%s %d" % (kind, int(number))))
+def of_fetch(key, wanted, cases, passing):
+    case = cases.get(fetch_of(key))
     if case is None:
         has = ", ".join(name for _, name in list(cases)[:20]) or "none"
         yield "%s: there is none; the play has %s" % (key, has)
         return
-    wanted = {"result": wanted} if isinstance(wanted, str) else wanted
-    found = list(of_case(case, wanted))
-    yield from ("%s: %s" % (key, line) for line in found)
-    if found and case.explanation:
-        yield from ("  " + line for line in case.explanation.lines())
+    found = list(of_case(case, {"result": wanted} if isinstance(wanted, str) else wanted))
+    yield from ("%s%s: %s" % (key, verdicts.asked(case), line) for _, line in found)
+    failed = {name for name, _ in found}
+    if found and "sees" in wanted:
+        case.asked_by_test = list(wanted["sees"])
+        case.explanation = explain(case)
+    if failed:
+        passing.append((case.fetch.document.number, case, True, "violations" in failed))
+        yield from ("  " + line for line in lines_of(case, "violations" in failed, failed != {"violations"}))
 
 
 def of_case(case, wanted):
-    """What came otherwise of one fetch or load."""
-    if not is_met(wanted["result"], case.result):
-        yield "expected %s; it came to %s" % (wanted["result"], case.result.short())
-    for key, look in LOOKS.items():
-        if key in wanted:
-            yield from look(case, wanted[key])
+    """What came otherwise of one fetch or load, each line with the key of what it tells."""
+    keys = [key for key in LOOKS if key in wanted]
+    if "result" in wanted and not is_met(wanted["result"], case.result):
+        following = [key for key in keys if key in FOLLOWING and case.result.is_refused()]
+        keys = [key for key in keys if key not in following]
+        more = "; not compared, since it follows: " + edits.listed(following) if following else ""
+        yield "result", "expected %s; it came to %s%s" % (wanted["result"], case.result.short(), more)
+    told = {key: list(LOOKS[key](case, wanted[key])) for key in keys}
+    if told.get("upgraded"):  # so it was sent elsewhere
+        told.pop("sent", None)
+    yield from ((key, line) for key, lines in told.items() for line in lines)
 
 
 def negated(wanted):
@@ -257,8 +322,18 @@ def look_at_way(case, wanted):
 def look_at_seen(case, wanted):
     for name, value in wanted.items():
         values = [own for one, own in case.result.headers if one.lower() == name.lower()]
-        if not values or ", ".join(values) != value:
-            yield "expected to see %s: %s; %s" % (name, value, "it sees " + ", ".join(values) if values else "it sees none")
+        told = "it sees " + ", ".join(values) if values else "it sees none" + why_unseen(case, name)
+        if not values or value not in (True, ", ".join(values)):
+            yield "expected to see %s%s; %s" % (name, "" if value is True else ": " + value, told)
+
+
+def why_unseen(case, name):
+    """Why a script that reads the answer does not see a header of this name."""
+    if case.verdict != "read" or case.head is None or case.result.type == "loaded":
+        return ""
+    if case.get(name) is None:
+        return ", since the answer does not have it"
+    return ", since it is not exposed" if name.lower() not in ("set-cookie", "set-cookie2") else ", as no script does"
 
 
 def look_at_hidden(case, wanted):
@@ -282,16 +357,14 @@ def look_at_requests(case, wanted):
 
 
 def look_at_violations(case, wanted):
-    """Each violation is expected, and each expected one comes, be it once or more: a report-only policy is told at the
-    request and at the response."""
-    form = "%(policy)d %(disposition)s %(directive)s %(url)s"
-    came = list(dict.fromkeys(form % one for one in findings.violations(case)))
+    """Each violation is expected, and each expected one comes, be it once or more."""
+    came = findings.told_violations(case)
     for one in wanted:
         if not any(is_part(one, violation) for violation in came):
             yield "expected the violation %s; there is %s" % (one, "; ".join(came) or "none")
     for violation in came:
         if not any(is_part(one, violation) for one in wanted):
-            yield "expected no other violation; there is %s" % violation
+            yield "expected no %sviolation; there is %s" % ("other " if wanted else "", violation)
 
 
 def is_part(wanted, violation):
@@ -300,12 +373,21 @@ def is_part(wanted, violation):
 
 
 def look_at_upgrades(case, wanted):
+    """A URL alone, or with the cause of its upgrade behind it."""
     came = findings.upgrades(case)
-    if came != listed(wanted):
-        yield "expected that it is upgraded to %s; it was to %s" % (
-            ", ".join(listed(wanted)) or "nothing", ", ".join(came) or "nothing")
+    wanted = listed(wanted)
+    if len(came) == len(wanted) and all(one in (own["to"], own["to"] + " " + own["cause"])
+                                        for one, own in zip(wanted, came)):
+        return
+    told = ", ".join("%s (%s)" % (one["to"], CAUSES[one["cause"]]) for one in came)
+    first = "expected an upgrade to " + ", ".join(wanted) if wanted else "expected no upgrade"
+    why = ": " + case.stays_plain if case.stays_plain else ""
+    yield "%s; %s" % (first, "it was upgraded to " + told if came else "there was none" + why)
+    yield from (note for note in case.notes if note.startswith(notes.IN_A_BROWSER))
 
 
+# What a fetch that is refused has not, or has not done, and so is not looked at where it was to be read.
+FOLLOWING = ("sees", "hides", "body", "sent")
 # What a test may say of a fetch beside its result.
 LOOKS = {"why": look_at_way, "sees": look_at_seen, "hides": look_at_hidden, "body": look_at_body,
          "sent": look_at_requests, "violations": look_at_violations, "upgraded": look_at_upgrades}

@@ -36,6 +36,11 @@ def always(c):
 
 
 CORS_CHECK = [
+    Way("redirect/cycle", "12", lambda c: c.has_no_end,
+        "the answer redirects ({c.status}) to {c.whereto}, and that leads back{c.back_where}: such a chain has no end, "
+        "whatever its headers are", "Location",
+        "let one of these URLs answer itself; look for a login that waits for a cookie which is never sent, or http "
+        "and https that lead to each other", REDIRECTS),
     Way("cors/no-rule", "7 12", lambda c: c.has_no_rule,
         "the scenario's server {c.request.origin} has no rule for {c.request.method} {c.request.target}, so the answer is "
         "an empty 404 without CORS headers; {c.nearest_rule}", "",
@@ -50,12 +55,12 @@ CORS_CHECK = [
         "the request says `Origin: null`, since a redirect led it from another origin to this one, and the answer "
         "{c.allows}", ALLOW_ORIGIN, "{change}; or redirect within one origin", "redirects.md#origin-null", changes.origin_null),
     Way("cors/preflight-redirect", "7", lambda c: c.is_redirect,
-        "the answer to the preflight redirects ({c.status}) to {c.whereto}, and preflights are not followed, whatever its "
-        "headers are", "Location", "{change}; look for https, a slash at the end, or a login", PREFLIGHT,
+        "the preflight is answered by a redirect ({c.status}) to {c.whereto}{c.next_differs}, and no redirect of a "
+        "preflight is followed, whatever headers it has", "Location", "{change}{c.look_for}", PREFLIGHT,
         changes.next_url_or_cors),
     Way("cors/preflight-login", "7", lambda c: c.allowed_origin is None and c.status in (401, 403, 407),
         "the answer to the preflight is {c.status}, without CORS headers: a preflight never carries a cookie or Authorization",
-        ALLOW_ORIGIN, "{change}, before the login is asked for", PREFLIGHT, changes.cors),
+        ALLOW_ORIGIN, "let OPTIONS pass before the login is asked for: {change}", PREFLIGHT, changes.cors),
     Way("cors/preflight-not-handled", "7", lambda c: c.allowed_origin is None and c.status in (404, 405, 501),
         "the answer to the preflight is {c.status}, without CORS headers: the server does not answer OPTIONS at "
         "{c.request.target}", ALLOW_ORIGIN, "{change}", PREFLIGHT, changes.cors),
@@ -64,28 +69,29 @@ CORS_CHECK = [
         ALLOW_ORIGIN, "{change}; then look why it is {c.status}", PREFLIGHT, changes.cors),
     Way("cors/absent-on-error", "12", lambda c: c.allowed_origin is None and c.status >= 400,
         "the answer is {c.status}, and has no Access-Control-Allow-Origin", ALLOW_ORIGIN,
-        "{change} with errors too: many servers, logins and proxies leave CORS headers out there; then look why it "
+        "{change}, with errors too: many servers, logins and proxies leave CORS headers out there; then look why it "
         "is {c.status}", CORS, changes.cors),
     Way("cors/absent-on-redirect", "12", lambda c: c.allowed_origin is None and c.is_redirect,
-        "the answer redirects ({c.status}) to {c.whereto}, and has no Access-Control-Allow-Origin", ALLOW_ORIGIN,
-        "{change}; each answer of a chain is checked", "redirects.md", changes.cors_or_next_url),
+        "the answer redirects ({c.status}) to {c.whereto}{c.next_differs}, and has no Access-Control-Allow-Origin",
+        ALLOW_ORIGIN, "{change}; each answer of a chain is checked{c.look_for}", "redirects.md",
+        changes.cors_or_next_url),
     Way("cors/absent", "7 12", lambda c: c.allowed_origin is None,
-        "the answer has no Access-Control-Allow-Origin", ALLOW_ORIGIN, "{change}", CORS, changes.cors),
+        "{c.the_answer} has no Access-Control-Allow-Origin", ALLOW_ORIGIN, "{change}", CORS, changes.cors),
     Way("cors/several", "7 12", lambda c: "," in c.allowed_origin,
-        "the answer has several values of Access-Control-Allow-Origin, which are joined to one that is no origin",
+        "{c.the_answer} has several values of Access-Control-Allow-Origin, which are joined to one that is no origin",
         ALLOW_ORIGIN, "{change}; once, with one value: look for a proxy that adds its own", CORS, changes.cors),
     Way("cors/star-with-credentials", "7 12", lambda c: c.allowed_origin == "*" and c.includes,
         "Access-Control-Allow-Origin is `*`, which passes no request with credentials", ALLOW_ORIGIN,
-        "{change}; and `Vary: Origin`, where several origins ask", CORS, changes.cors),
+        "{change}{c.and_vary}", CORS, changes.cors),
     Way("cors/written-otherwise", "7 12", lambda c: c.allowed_origin != c.origin and c.is_alike(),
         "`{c.allowed_origin}` is not `{c.origin}`, byte for byte, as the request says its origin", ALLOW_ORIGIN,
         "{change}; an origin is scheme, ://, host, and the port where it is not the default: no slash, no blank, no quotes",
         CORS, changes.cors),
     Way("cors/other-origin", "7 12", lambda c: c.allowed_origin != c.origin,
-        "the answer allows `{c.allowed_origin}`, and the request is of `{c.origin}`", ALLOW_ORIGIN,
-        "{change}, where the server trusts this origin; and `Vary: Origin`, where several origins ask", CORS, changes.cors),
+        "{c.the_answer} allows `{c.allowed_origin}`, and the request is of `{c.origin}`", ALLOW_ORIGIN,
+        "{change}, where the server trusts this origin{c.and_vary}{c.and_others}", CORS, changes.cors),
     Way("cors/credentials-absent", "7 12", lambda c: c.allowed_credentials is None,
-        "the request has credentials, and the answer has no Access-Control-Allow-Credentials", ALLOW_CREDENTIALS,
+        "the request has credentials, and {c.the_answer} has no Access-Control-Allow-Credentials", ALLOW_CREDENTIALS,
         "{change}", CORS, changes.cors_or_without_credentials),
     Way("cors/credentials-not-true", "7 12", lambda c: c.allowed_credentials != "true",
         "Access-Control-Allow-Credentials is `{c.allowed_credentials}`, and not `true`", ALLOW_CREDENTIALS,
@@ -94,11 +100,11 @@ CORS_CHECK = [
 
 PREFLIGHTS = [
     Way("preflight/redirect", "8", lambda c: c.is_redirect,
-        "the answer to the preflight redirects ({c.status}) to {c.whereto}, and preflights are not followed", "Location",
-        "{change}; look for https, a slash at the end, or a login", PREFLIGHT, changes.next_url_or_cors),
+        "the preflight is answered by a redirect ({c.status}) to {c.whereto}{c.next_differs}, and no redirect of a "
+        "preflight is followed", "Location", "{change}{c.look_for}", PREFLIGHT, changes.next_url_or_cors),
     Way("preflight/login", "8", lambda c: c.status in (401, 403, 407),
         "the answer to the preflight is {c.status}: a preflight never carries a cookie or Authorization", "",
-        "{change}, before the login is asked for", PREFLIGHT, changes.cors),
+        "let OPTIONS pass before the login is asked for: {change}", PREFLIGHT, changes.cors),
     Way("preflight/no-handler", "8", lambda c: c.status in (404, 405, 501),
         "the answer to the preflight is {c.status}: the server does not answer OPTIONS at {c.request.target}", "",
         "{change}", PREFLIGHT, changes.cors),
@@ -112,14 +118,16 @@ PREFLIGHTS = [
         ALLOW_METHODS, "{change}", PREFLIGHT, changes.cors),
     Way("preflight/method-star-with-credentials", "10", lambda c: "*" in c.methods and c.includes,
         "Access-Control-Allow-Methods is `*`, which covers no method of a request with credentials", ALLOW_METHODS,
-        "list the method: {change}", PREFLIGHT, changes.cors),
+        "list the method beside it, since it counts for requests without credentials: {change}", PREFLIGHT,
+        changes.cors),
     Way("preflight/method-in-another-case", "10", lambda c: c.same_method != "",
         "Access-Control-Allow-Methods has `{c.same_method}`, and the request's method is `{c.method}`: the case counts",
         ALLOW_METHODS, "{change}", PREFLIGHT, changes.method_in_another_case),
     Way("preflight/method-not-listed", "10", always,
         "Access-Control-Allow-Methods does not have {c.method}", ALLOW_METHODS,
         "list it beside what is there: {change}", PREFLIGHT, changes.cors),
-    Way("preflight/authorization-under-star", "11", lambda c: c.result.detail == "authorization" and "*" in c.names,
+    Way("preflight/authorization-under-star", "11",
+        lambda c: c.result.detail == "authorization" and "*" in c.names and not c.includes,
         "`*` in Access-Control-Allow-Headers does not cover Authorization", ALLOW_HEADERS,
         "list it by its name: {change}", PREFLIGHT, changes.cors),
     Way("preflight/user-agent", "11", lambda c: c.result.detail == "user-agent",
@@ -130,7 +138,8 @@ PREFLIGHTS = [
         ALLOW_HEADERS, "{change}", PREFLIGHT, changes.cors),
     Way("preflight/header-star-with-credentials", "11", lambda c: "*" in c.names and c.includes,
         "Access-Control-Allow-Headers is `*`, which covers no header of a request with credentials", ALLOW_HEADERS,
-        "list the names: {change}", PREFLIGHT, changes.cors),
+        "list the names beside it, since it counts for requests without credentials: {change}", PREFLIGHT,
+        changes.cors),
     Way("preflight/header-not-listed", "11", always,
         "Access-Control-Allow-Headers does not have {c.result.detail}", ALLOW_HEADERS,
         "list it beside what is there: {change}", PREFLIGHT, changes.cors),
@@ -154,9 +163,11 @@ UNLOADED = [
 POLICIES = [
     Way("policy/quotes", "4", lambda c: c.unquoted_words != [],
         "{c.policy} has `{c.directive_text}`, where `{c.unquoted_word}` lacks its quotes (`{c.unquoted_written}`), and so is "
-        "no keyword, nonce or hash", "", "{change}", "csp.md#words-section-231-source-expression", changes.put_quotes),
+        "no keyword, nonce or hash", "", "{change}{c.then_strict}", "csp.md#words-section-231-source-expression",
+        changes.put_quotes),
     Way("policy/before-upgrade", "4", lambda c: c.is_before_upgrade,
-        "{c.policy} has `{c.directive_text}`, and is asked of {c.policy_url} as it is before any upgrade", "", "{change}",
+        "{c.policy} has `{c.directive_text}`, and no word of it matches {c.policy_url}: a policy that only reports is "
+        "asked before the URL becomes https, and one that is enforced behind that", "", "{change}{c.while_reporting}",
         "csp.md#when-a-fetch-asks-them-section-41-integration-with-fetch", changes.before_upgrade),
     Way("policy/data-script", "4", lambda c: c.kind == "script" and scheme_of(c.policy_url) == "data",
         "{c.policy} has `{c.directive_text}`, and a word that lets this `data:` URL pass lets every script pass that finds its way "
@@ -219,13 +230,13 @@ BEFORE_SENDING = UNLOADED + [
         "mixed-content.md#bad-ports-fetch-section-29-port-blocking", changes.other_port),
     Way("mixed/ip-address", "3", lambda c: c.is_upgradeable_address,
         "the page is secure, and {c.url}{c.where} is not: images, audio and video become https by themselves, but not where "
-        "the host is an IP address", "", "give the server a name; or {change}", MIXED, changes.ask_secure),
+        "the host is an IP address", "", "give the server a name; or {change}", MIXED, changes.ask_secure_or_upgrade),
     Way("mixed/top", "3", lambda c: c.is_embedded and not c.page_origin.startswith("https:"),
-        "the page at the top, {c.top_origin}, is secure, and {c.url}{c.where} is not: what is embedded may not be laxer", "",
-        "{change}", MIXED, changes.ask_secure),
+        "the page at the top, {c.top_origin}, is secure, and {c.url}{c.where} is not: what is embedded may not be "
+        "laxer{c.but_known}", "", "{change}{c.too_late}", MIXED, changes.ask_secure_or_upgrade),
     Way("mixed/page", "3", always,
-        "the page {c.page_origin} is secure, and {c.url}{c.where} is not, so nothing is sent to it", "",
-        "{change}{c.too_late}", MIXED, changes.ask_secure),
+        "the page {c.page_origin} is secure, and {c.url}{c.where} is not, so nothing is sent to it{c.but_known}", "",
+        "{change}{c.too_late}", MIXED, changes.ask_secure_or_upgrade),
     *POLICIES,
     Way("same-origin/known-host", "5", lambda c: c.is_known_host and not c.is_redirected,
         "the host is a known one (HSTS), so the URL becomes https, which is another origin than {c.page_origin}; and the mode "
@@ -280,13 +291,14 @@ ANSWERS = [
         "leave out the port 80 of the word, since the URL became https: {change}", "final-checks.md#1-the-policies",
         changes.without_port),
     Way("type/script", "20", always, "the type of the answer is `{c.essence}`, which no script may have", "Content-Type",
-        "{change}", TYPES, changes.header("Content-Type", "text/javascript")),
+        "{change}{c.why_status}", TYPES, changes.header("Content-Type", "text/javascript")),
     Way("type/nosniff-absent", "21", lambda c: not c.essence,
-        "the answer says `nosniff`, and has no type", "Content-Type", "{change}", TYPES,
+        "the answer says `nosniff`, and has no type", "Content-Type", "{change}{c.why_status}", TYPES,
         changes.header("Content-Type", lambda c: c.right_type)),
     Way("type/nosniff", "21", always,
         "the answer says `nosniff`, and its type is `{c.essence}`, which a {c.kind} may not have", "Content-Type",
-        "{change} once: of several the last counts", TYPES, changes.header("Content-Type", lambda c: c.right_type)),
+        "{change}, once: of several the last counts{c.why_status}", TYPES,
+        changes.header("Content-Type", lambda c: c.right_type)),
     Way("integrity/opaque", "22", lambda c: c.is_opaque,
         "the response is opaque, since it is of another origin and the mode is no-cors: there is no body to match", "",
         "{change}", BODY, changes.in_cors),
@@ -312,7 +324,7 @@ ANSWERS = [
         "the body that came is not the one of the integrity text", "",
         "make the digest anew of the bytes as they are sent: {change}", BODY, changes.integrity),
     Way("no-verdict/coded", "23", always,
-        "no verdict on the body: it is coded, and this engine decodes none (requests say `Accept-Encoding: identity`); a "
+        "no verdict: the body is coded, and this engine decodes none (requests say `Accept-Encoding: identity`); a "
         "browser would, and CORS, policies and types let it", "Content-Encoding",
         "for a verdict here send the body uncoded, and {change}; a browser needs no change", BODY,
         changes.uncoded),
@@ -354,8 +366,9 @@ LINKS = [
     Way("link/reset", "24", always, "the connection to {c.route} broke before the head of the answer was whole", "",
         "look into the server's log: it ended, or reset the connection", "../check-your-server.md#how-to-read-what-it-prints"),
     Way("head/no-server", "25", lambda c: not c.is_net and c.answer.server is None,
-        "the scenario has no server {c.request.origin}: {c.near_server}", "",
-        "add a server of this origin; scheme and port must be these", "../scenario.md#servers", changes.a_server),
+        "{c.why_scheme}the scenario has no server {c.request.origin}: {c.near_server}", "",
+        "add a server of this origin, with this scheme and this port{c.or_known}", "../scenario.md#servers",
+        changes.a_server),
     Way("head/nothing", "25", lambda c: c.link_problem == "nothing", "the server closed the connection without an answer", "",
         "look into the server's log", HEAD),
     Way("head/tls", "25", lambda c: c.link_problem == "tls", "the server speaks TLS there, and was asked in plain", "",
@@ -452,18 +465,23 @@ ASKED = {
 TABLE = DIRECT + CORS_CHECK + PREFLIGHTS + BEFORE_SENDING + ANSWERS + LINKS + REQUESTS + SEEN
 
 
+# Parts of conditions that are there for some fetches alone, and an answer that stands for that to a preflight too.
+SOMETIMES = re.compile(r"\{c\.(?:where|back_where|next_differs|but_known|why_scheme)\}")
+
+
 def way_lines():
     """Each way in a line: its name, its results, and its condition, in which words in capitals stand for what is told of the
     fetch."""
     for way in TABLE:
-        condition = re.sub(r"\{c\.(?:\w+[.\[])*(\w+)\]?\}", lambda found: found.group(1).replace("_", " ").upper(),
-                           way.condition.replace("{c.where}", ""))
+        text = SOMETIMES.sub("", way.condition).replace("{c.the_answer}", "the answer")
+        condition = re.sub(r"\{c\.(?:\w+[.\[])*(\w+)\]?\}",
+                           lambda found: found.group(1).replace("_", " ").upper(), text)
         yield "%s (%s): %s" % (way.name, way.results, condition)
 
 
 class Explanation:
-    """A way that holds of a case, with its texts filled in. `edits` are the change as data (edits.py), and `others` what would do
-    in its place."""
+    """A way that holds of a case, with its texts filled in. `edits` are the change as data (edits.py), and `others`
+    what would do in its place, which `change` says too, and `first_change` does not."""
 
     def __init__(self, way, c):
         condition, change, rule = way.condition, way.change, way.rule
@@ -471,19 +489,30 @@ class Explanation:
             condition, change = ASKED.get(way.name, (condition, change))
             rule = "../ask.md" if rule.startswith("../check-your-server.md") else rule
         found = [one for one in way.changes(c) if one]
-        is_asked = key_of(c.result) in PREFLIGHTED and c.about is None and way not in DIRECT and c.origin != "null"
+        is_of_cors = key_of(c.result) in (*PREFLIGHTED, "12") and c.about is None and way not in DIRECT
+        is_asked = is_of_cors and key_of(c.result) != "12" and c.origin != "null"
         self.way = way.name
         self.condition = condition.format(c=c)
-        told = edits.sentence([shown(one) for one in found] if is_asked else found)
+        if c.verdict == "refused":  # by a policy, whatever this engine loads
+            self.condition = self.condition.removeprefix("no verdict: ")
+        asked = c.preflighted_url
+        told = edits.sentence(found, asked)
         change = change if told else change.replace("{change}; or ", "")
         self.change = change.format(c=c, change=told or NOTHING)
+        self.first_change = change.format(c=c, change=edits.sentence(found[:1], asked) or NOTHING)
         self.edits = found[0] if found else []
         self.others = found[1:]
         self.rule = "docs/rules/" + rule if not rule.startswith("../") else "docs/" + rule[3:]
         self.header = way.header.format(c=c)
         self.value = c.get(self.header) if self.header else None
         self.misspelt = misspelt(c, self.header) if self.header and self.value is None else None
-        self.needs = c.needs_told.lines() if is_asked else []
+        if is_asked and self.header and self.value is None and c.own_head and c.own_head.get(self.header) is not None:
+            absent = "has no " + self.header
+            self.condition = self.condition.replace(absent, "%s (that to %s has it)" % (absent, c.method))
+        self.needs = c.needs_told.by_method() if is_asked else {}
+        self.exposing = changes.expose_too(c) if is_of_cors else []
+        lines = c.needs_told.lines() if is_asked else []
+        self.in_all = lines + [exposed(edit, c.own_head is None) for edit in self.exposing]
 
     def lines(self):
         """As it stands between the lines of a play."""
@@ -492,11 +521,11 @@ class Explanation:
             value = "is not there" if self.value is None else ": " + self.value
             value += "; is `%s` meant for it?" % self.misspelt if self.misspelt else ""
             lines.append("header: %s%s" % (self.header, value if value.startswith(":") else " " + value))
-        needs = ["in all: " + line for line in self.needs]
-        return lines + ["change: " + self.change, *needs, "rule: %s (%s)" % (self.rule, self.way)]
+        in_all = ["in all: " + line for line in self.in_all]
+        return lines + ["change: " + self.change, *in_all, "rule: %s (%s)" % (self.rule, self.way)]
 
     def data(self):
-        return dict(self.__dict__)
+        return {name: value for name, value in self.__dict__.items() if name != "first_change"}
 
 
 class PolicyExplanation(Explanation):
@@ -517,9 +546,10 @@ class PolicyExplanation(Explanation):
 NOTHING = "nothing is to be changed"
 
 
-def shown(change):
-    """What is not said of the answer to the request in the lines `in all`."""
-    return [edit for edit in change if edit["at"] != "answer"] or change
+def exposed(edit, is_unknown):
+    more = ", where it does not send that yet" if is_unknown else ""
+    return (f"where the script is to see these headers too, the answer to {edit['method']} needs "
+            f"{edits.told(edit)}{more}")
 
 
 def misspelt(c, wanted):
@@ -547,6 +577,15 @@ def explain(case):
     return None if way is None else Explanation(way, case)
 
 
+def lines_of(case, with_reports=False, with_all=True):
+    """What is said of one that is refused: why, and what to change in each policy that refuses it, or reports it.
+    Without all it is said of the policies alone."""
+    told = [policy for policy in case.policies_told if policy.enforced or with_reports]
+    is_of_policy = case.explanation is not None and case.explanation.way.startswith("policy/")
+    own = case.explanation.lines() if case.explanation and (with_all or is_of_policy) else []
+    return own + [line for policy in told for line in policy.lines()]
+
+
 def explain_policies(case):
     """What to change in each violated policy, except the one that the explanation is about."""
     way = case.explanation.way if case.explanation else ""
@@ -554,9 +593,13 @@ def explain_policies(case):
     found = []
     for violation in case.violations:
         if violation not in own:
-            about = case.of_violation(violation)
-            found.append(PolicyExplanation(way_of(about, "19" if is_of_port(about) else "4"), about))
+            found.append(policy_explanation(case.of_violation(violation)))
     return found
+
+
+def policy_explanation(about):
+    """That of the violation that a case is about."""
+    return PolicyExplanation(way_of(about, "19" if is_of_port(about) else "4"), about)
 
 
 def is_of_port(case):

@@ -62,7 +62,7 @@ class Export:
         """The rule that gives the bytes that the engine was fed."""
         name = "the answer to %s %s" % (request.method, request.target)
         if exchange.stream.head is not None:
-            self.lacks.append(name + " stands there as it was decoded")
+            self.lacks.append(name + " stands there as it was decoded, in chunks and without Content-Encoding")
         fed = exchange.fed
         text = fed.decode("utf-8", "ignore")
         if text.encode() != fed:

@@ -34,8 +34,11 @@ FORMS = ("application/x-www-form-urlencoded", "multipart/form-data", "text/plain
 UNSAFE = re.compile('[\x00-\x08\x0a-\x1f"():<>?@\\[\\\\\\]{}\x7f]')
 LANGUAGES = re.compile(r"[0-9A-Za-z *,\-.;=]*")
 RANGE = re.compile(r"bytes=([0-9]+)-([0-9]*)")
-DROPPED = ("`%s` is dropped, since in mode no-cors a script sets Accept, Accept-Language, Content-Language and "
-           "Content-Type alone, with values that a form could send")
+# What says who asks: of several headers that are dropped these are told first.
+CREDENTIALS = ("authorization", "cookie", "proxy-authorization")
+CLOSED_TO_SCRIPTS = "dropped, since no script may set it: %s"
+CLOSED_IN_NO_CORS = ("dropped, since in mode no-cors a script sets Accept, Accept-Language, Content-Language and "
+                     "Content-Type alone, with values that a form could send: %s")
 USER_AGENT = ("`User-Agent` is the script's: browsers send their own, and one that lets a script set it asks for a "
               "preflight of another origin first; leave it out, where it came with a command line of curl")
 
@@ -95,15 +98,25 @@ def unsafe_names(headers):
     return sorted({name.lower() for name in unsafe})
 
 
+def told(dropped):
+    """Headers that are dropped in one text, by pairs of a name and a reason, which may be empty: the names of one
+    reason together, and credentials first."""
+    by_reason = {}
+    for name, reason in sorted(dropped, key=lambda pair: pair[0].lower() not in CREDENTIALS):
+        by_reason.setdefault(reason, {})[f"`{name}`"] = None
+    return "; ".join(", ".join(names) + (f" ({reason})" if reason else "") for reason, names in by_reason.items())
+
+
 def notes(headers, mode):
-    """A sentence for each header that is dropped, and one for `User-Agent`."""
+    """What is to be said of the headers that are dropped, and of `User-Agent`."""
     left = kept(headers, mode)
-    for name, value in headers:
-        instead = in_place(name, value)
-        if instead is not None:
-            yield "`%s` is dropped, since no script may set it: %s" % (name, instead)
-        elif (name, value.strip("\t\n\r ")) not in left:
-            more = ": browsers send their own" if name.lower() == "user-agent" else ""
-            yield DROPPED % name + more
-        elif name.lower() == "user-agent":
-            yield USER_AGENT
+    closed = [(name, in_place(name, value)) for name, value in headers if in_place(name, value) is not None]
+    others = [(name, value.strip("\t\n\r ")) for name, value in headers if in_place(name, value) is None]
+    unsafe = [name for name, value in others if (name, value) not in left]
+    if closed:
+        yield CLOSED_TO_SCRIPTS % told(closed)
+    if unsafe:
+        own = {"user-agent": "browsers send their own"}
+        yield CLOSED_IN_NO_CORS % told([(name, own.get(name.lower(), "")) for name in unsafe])
+    if any(name.lower() == "user-agent" and (name, value) in left for name, value in others):
+        yield USER_AGENT

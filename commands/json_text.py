@@ -53,6 +53,13 @@ class Node:
         found = [value for key, value in self.members if key.value == name]
         return found[-1] if found else None
 
+    def at(self, path):
+        """The value to which keys and numbers of items lead."""
+        node = self
+        for word in path:
+            node = node.items[word] if isinstance(word, int) else node.member(word)
+        return node
+
     def plain(self):
         """The value as Python has it."""
         if self.kind == "object":

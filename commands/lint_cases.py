@@ -119,6 +119,8 @@ CSP_WORDS = {
     "csp/webrtc-word": (csp_of("webrtc block"), csp_of("webrtc 'block'")),
     "csp/report-over-http": (csp_of("img-src 'self'; report-uri http://shop.test/csp"),
                              csp_of("img-src 'self'; report-uri http://shop.test/csp", url="http://shop.test/")),
+    "csp/source-as-endpoint": (asking("connect-src 'self'; report-uri /csp %s" % API, API + "/v1"),
+                               asking("connect-src 'self'; report-uri /csp %s/csp" % API, API + "/v1")),
     "csp/keyword-unquoted": (csp_of("img-src self"), csp_of("img-src self.test")),
     "csp/nonce-unquoted": (csp_of("script-src nonce-abc"), csp_of("script-src nonce-abc.test")),
     "csp/hash-unquoted": (csp_of("script-src sha256-" + SHA256), csp_of("script-src 'sha256-%s'" % SHA256)),
@@ -291,6 +293,27 @@ RIGHT = [
     "img-src 'self' a.test a.test/b/ wss://a.test:* mediastream:",
 ]
 
+# What one change mends is told once.
+TOLD_ONCE = [
+    (report_only("default-src 'self' report-uri /csp"), "csp/semicolon-missing"),
+    (report_only("default-src 'self'; report-ur /csp"), "csp/unknown-directive"),
+    (csp_of("conect-src 'none'"), "csp/unknown-directive"),
+    (csp_of("img-src \u2018self\u2019"), "csp/not-ascii"),
+    (asking("connect-src https://api.test/v1 https://api.test/v1/", API + "/v1/cart"), None),
+]
+
+# Policies with several slips, and what is meant by them.
+MENDED = {
+    "default-src self; connect-src 'self' api.test report-uri /csp": "default-src 'self'; connect-src 'self' api.test; "
+                                                                     "report-uri /csp",
+    "defualt-src none; script-src 'slef' nonce-abc; img-src https://a.test 'none'":
+        "default-src 'none'; script-src 'self' 'nonce-abc'; img-src https://a.test",
+    "img-src 'self' font-src fonts.test style-src css.test": "img-src 'self'; font-src fonts.test; style-src css.test",
+    "img-src a.test; b.test; img-src c.test; font-scr 'self": "img-src a.test b.test c.test; font-src 'self'",
+    "default-src 'self' data:; upgrade-insecure-requests 1": "default-src 'self' data:; script-src 'self'; "
+                                                             "upgrade-insecure-requests",
+}
+
 # Headers as servers send them, all right, of an answer and of a document.
 RIGHT_HEADERS = [
     [ORIGIN, "*"], [METHODS, "GET, POST, PUT, PATCH, DELETE, OPTIONS"], [EXPOSED, "ETag, X-Total"], [AGE, "7200"],
@@ -322,10 +345,20 @@ ON_PURPOSE = {
     "gallery/hsts-first-visit": {"hsts/over-http": "that it is ignored is shown"},
     "gallery/integrity-204": {"integrity/opaque": SHOWN},
     "gallery/max-age-edges": {"cors/max-age-no-number": "`-1`, and two of them, are edges"},
-    "gallery/policy-without-effect": dict.fromkeys(["csp/directive-twice", "csp/does-nothing", "csp/header-misspelt",
+    "gallery/policy-without-effect": dict.fromkeys(["csp/directive-twice", "csp/header-misspelt",
                                                     "csp/semicolon-missing", "csp/unknown-directive"], QUESTION),
     "gallery/star-learnt": {"cors/methods-star-with-credentials": QUESTION},
     "gallery/star-with-credentials": {"cors/credentials-not-true": SHOWN, "cors/star-with-credentials": QUESTION},
     "gallery/two-allow-origins": {"cors/origin-list": SHOWN, "cors/origin-path": SHOWN, "cors/origin-twice": QUESTION},
     "gallery/vary-origin": {"cors/vary-missing": QUESTION},
+}
+
+# Lints of policies whose right text is not known, or does not stand in the policy, each with its reason. What the
+# others tell of is mended (lints/mending.py).
+OTHER_TEXT, OTHER_PLACE = "what is meant is not known", "it is no matter of one policy's text"
+UNMENDED = {
+    "csp/report-to-unknown": OTHER_PLACE,
+    **dict.fromkeys(["csp/does-nothing", "csp/report-only-unheard", "csp/no-word", "csp/nonce-characters",
+                     "csp/hash-length", "csp/hash-algorithm", "csp/address"], OTHER_TEXT),
+    "csp/strict-dynamic-alone": "the scripts of the page say whether a nonce or a hash is meant",
 }

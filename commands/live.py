@@ -192,12 +192,23 @@ class Page:
         self.lines.append("fetch %d" % self.count if kind is None else "load %d %s" % (self.count, kind))
         self.count += 1
         try:
-            fetch = fiorrudda.Fetch(self.client, make(), self.now, self.limit)
+            request = make()
+            fetch = fiorrudda.Fetch(self.client, request, self.now, self.limit)
         except fiorrudda.NoRequest as fault:
             self.lines.append(printed.fault_line(fault, kind is not None))
             return
         self.act(fetch)
-        self.lines += printed.outcome_lines(fetch.outcome, kind is not None)
+        self.lines += printed.outcome_lines(self.as_it_came(fetch.outcome, request), kind is not None)
+
+    def as_it_came(self, outcome, request):
+        """The outcome with the headers that the answer lets a page see, by the engine's own filter, where the engine
+        was fed another head."""
+        own = self.wire.exchanges[-1].stream.own if self.wire.exchanges else None
+        if own is None or not isinstance(outcome, fiorrudda.Response) or outcome.kind not in ("basic", "cors"):
+            return outcome
+        headers = [(name.encode("latin-1"), value.encode("latin-1")) for name, value in own.headers]
+        seen = fiorrudda.seen(self.client, request, own.status, headers, outcome.kind)
+        return outcome._replace(headers=seen.headers.pairs())
 
     def act(self, fetch):
         left, waits = b"", None

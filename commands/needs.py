@@ -3,13 +3,27 @@ own, in values that keep what the server sends already."""
 import re
 
 from commands import edits, guards
+from commands.scenario import origin_of
 
 ALLOW_ORIGIN = "Access-Control-Allow-Origin"
 ALLOW_CREDENTIALS = "Access-Control-Allow-Credentials"
 ALLOW_METHODS = "Access-Control-Allow-Methods"
 ALLOW_HEADERS = "Access-Control-Allow-Headers"
 EXPOSE_HEADERS = "Access-Control-Expose-Headers"
+VARY = "Vary"
 TOKEN = re.compile(r"[!#$%&'*+\-.^_`|~0-9A-Za-z]+")
+LIKE_CORS = re.compile(r"ac+es+-cont?rol-", re.I)  # a header of CORS, written right or wrong
+# What a script of another origin sees of each answer (Fetch, section 2.2.2, "CORS-safelisted response-header name").
+SAFELISTED = {"cache-control", "content-language", "content-length", "content-type", "expires", "last-modified",
+              "pragma"}
+# What no script sees, and what belongs to the connection, to caches or to a page, and says nothing to a script.
+NEVER_MISSED = {
+    "alt-svc", "connection", "content-encoding", "content-security-policy", "content-security-policy-report-only",
+    "cross-origin-embedder-policy", "cross-origin-opener-policy", "cross-origin-resource-policy", "date",
+    "keep-alive", "nel", "origin-agent-cluster", "permissions-policy", "referrer-policy", "report-to",
+    "reporting-endpoints", "server", "set-cookie", "set-cookie2", "strict-transport-security",
+    "timing-allow-origin", "trailer", "transfer-encoding", "upgrade", "vary", "via", "x-content-type-options",
+    "x-frame-options", "x-powered-by", "x-xss-protection"}
 
 
 def items_of(value):
@@ -29,12 +43,36 @@ def merged(value, more, as_names, known=None):
     return ", ".join(found.values())
 
 
-class Needs:
-    """What a request to a URL needs: `names` are those of its headers that ask for a preflight. `asked` and `own` are the heads
-    that answered the preflight and the request, where they came, and `always` says that there is a preflight
-    whatever the method and the names are."""
+def unseen(names, exposing, includes):
+    """Those of an answer's names that a script of another origin does not see, by the value of its
+    Access-Control-Expose-Headers (docs/rules/responses.md)."""
+    listed = items_of(exposing)
+    exposed = {item.lower() for item in listed} if all(map(TOKEN.fullmatch, listed)) else set()
+    if "*" in exposed and not includes:
+        return []
+    return [name for name in names if name.lower() not in SAFELISTED | exposed]
 
-    def __init__(self, url, origin, includes, method, names, asked=None, own=None, always=False):
+
+def missed(names):
+    """Those that a script might miss."""
+    return [name for name in names if name.lower() not in NEVER_MISSED and not LIKE_CORS.match(name)]
+
+
+def each_once(names):
+    """Each once, whatever its case."""
+    found = {}
+    for name in names:
+        found.setdefault(name.lower(), name)
+    return list(found.values())
+
+
+class Needs:
+    """What a request to a URL needs: `names` are those of its headers that ask for a preflight. `asked` and `own` are
+    the heads that answered the preflight and the request, or would; None where they are not known. `always` says that
+    there is a preflight whatever the method and the names are, and `varies` that pages of other origins ask too, or
+    may."""
+
+    def __init__(self, url, origin, includes, method, names, asked=None, own=None, always=False, varies=False):
         self.url = url
         self.origin = origin
         self.includes = includes
@@ -43,6 +81,7 @@ class Needs:
         self.asked = asked
         self.own = own
         self.always = always
+        self.varies = varies
 
     def is_preflighted(self):
         return self.always or bool(self.names) or self.method not in guards.SAFELISTED_METHODS
@@ -55,7 +94,18 @@ class Needs:
         return [(ALLOW_ORIGIN, allowed if stays else self.origin), *credentials]
 
     def of_own(self):
-        return self.of_check(self.own or self.asked)
+        found = self.of_check(self.own or self.asked)
+        return found + (self.of_vary() if found[0] == (ALLOW_ORIGIN, self.origin) else [])
+
+    def of_vary(self):
+        """That caches keep an answer which allows one origin for pages of that one alone (Fetch, "CORS protocol and
+        HTTP caches")."""
+        is_one_of_many = self.varies and self.origin not in ("null", origin_of(self.url))
+        if not is_one_of_many or self.own and "no-store" in items_of((self.own.get("Cache-Control") or "").lower()):
+            return []
+        value = self.own.get(VARY) if self.own else None
+        is_there = {"origin", "*"} & set(items_of((value or "").lower()))
+        return [(VARY, value if is_there else merged(value, ["Origin"], True))]
 
     def of_preflight(self):
         methods = [] if self.method in guards.SAFELISTED_METHODS else [self.method]
@@ -75,18 +125,43 @@ class Needs:
         """What is to be changed at the answer to the preflight, all at once."""
         status = self.asked.status if self.asked else 0
         wrong = [] if 200 <= status <= 299 else [edits.preflight(self.url, "status", 204)]
-        return wrong + [edits.preflight(self.url, name, value) for name, value in self.of_preflight()
-                        if not self.asked or self.asked.get(name) != value]
+        return wrong + [edits.preflight(self.url, name, value, replaced(self.asked, name))
+                        for name, value in self.of_preflight() if is_missing(self.asked, name, value)]
 
     def own_edits(self):
-        return [edits.answer(self.method, self.url, name, value) for name, value in self.of_own()
-                if not self.own or self.own.get(name) != value]
+        return [edits.answer(self.method, self.url, name, value, replaced(self.own, name))
+                for name, value in self.of_own() if is_missing(self.own, name, value)]
 
     def all_edits(self):
         return (self.preflight_edits() if self.is_preflighted() else []) + self.own_edits()
 
+    def by_method(self):
+        """All of it: the headers by the method that is answered."""
+        return {"OPTIONS": dict(self.of_preflight()), self.method: dict(self.of_own())}
+
     def lines(self):
         """All of it in two sentences."""
-        asked, own = (", ".join("`%s: %s`" % pair for pair in pairs) for pairs in (self.of_preflight(), self.of_own()))
+        asked, own = (", ".join(told(head, *pair) for pair in pairs)
+                      for head, pairs in ((self.asked, self.of_preflight()), (self.own, self.of_own())))
         return ["the answer to OPTIONS needs a status of 200 to 299, " + asked,
-                "the answer to %s needs %s" % (self.method, own)]
+                "the answer to %s needs %s%s" % (self.method, own, self.known())]
+
+    def known(self):
+        """What is to be said of an answer that did not come, or that has all that it needs."""
+        if self.own is None:
+            return ", where it does not send that yet"
+        return "" if self.own_edits() else ", and has that"
+
+
+def is_missing(head, name, value):
+    return head is None or head.get(name) != value
+
+
+def replaced(head, name):
+    """The value that a head has by this name, or None."""
+    return head.get(name) if head else None
+
+
+def told(head, name, value):
+    """A header as it is written, and what it replaces."""
+    return edits.told({"set": name, "value": value, "replaces": replaced(head, name)})

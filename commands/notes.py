@@ -1,18 +1,22 @@
 """What is to be said of a fetch whatever came of it: which of its URLs became https and why, and which of its headers
 are not sent."""
 from commands import guards
-from commands.urls import host_of, secure
+from commands.urls import host_of, is_trustworthy, secure
 
 UPGRADES = {
     "hsts": "its host is a known one (HSTS)",
     "policy": "a policy of the page has `upgrade-insecure-requests`",
     "mixed": "a secure page asks for images, audio and video over https (mixed content)",
 }
+# As docs/BROWSERS.md has it measured.
+IN_A_BROWSER = "in a browser "
+LOOPBACK = (IN_A_BROWSER + "%s may stay http: Chromium and Firefox leave `http://127.0.0.1` alone, where the standard "
+            "upgrades it (docs/BROWSERS.md)")
 
 
 def notes(case):
     """All of them, in sentences, each once."""
-    return list(dict.fromkeys([*dropped(case), *upgrades(case)]))
+    return list(dict.fromkeys([*dropped(case), *upgrades(case), *plain(case)]))
 
 
 def dropped(case):
@@ -26,3 +30,13 @@ def upgrades(case):
         cause = case.upgrade_of(hop)
         if cause and host_of(hop.asked):
             yield "%s became %s: %s" % (hop.asked, secure(hop.asked), UPGRADES[cause])
+            if cause == "policy" and is_trustworthy(hop.asked):
+                yield LOOPBACK % hop.asked
+
+
+def plain(case):
+    """Why a URL stays http, where the explanation does not say it."""
+    told = case.explanation.condition if case.explanation else ""
+    for hop, reason in zip(case.hops, case.plain_reasons):
+        if reason and reason not in told:
+            yield "%s stays http: %s" % (hop.asked, reason)

@@ -10,6 +10,8 @@ from commands.scenario import joined, origin_of
 
 OWN = "a browser sends its own"
 CACHE = "a browser's cache adds it"
+ELEMENT = "an element sets no header"
+NO_CORS = "in mode no-cors a script sets %s alone" % ", ".join(guards.NO_CORS)
 # What is said otherwise here of a header that no script may set: guards.py has the others.
 HERE = {
     "accept-encoding": "a browser names the codings that it decodes; here the request says identity",
@@ -31,11 +33,13 @@ ABOUT_PAGE = ("origin", "referer")
 
 class Said:
     """The request of a page: `url`, `method`, `headers`, `body`, `mode`, `credentials`, `load`, `crossorigin`; its
-    `page` (None where nothing says it) and its `cookies`; `notes` say what became of the rest."""
+    `page` (None where nothing says it) and its `cookies`; `notes` say what became of the rest, and `was_navigation`
+    that what was copied opened a page, which is asked as a fetch."""
 
     def __init__(self, given, url):
         self.given = given
-        self.notes = []
+        self.notes, self.left_out = [], []
+        self.was_navigation = False
         self.url, self.body = url, given.body
         if given.get and self.body is not None:
             self.url, self.body = with_query(url, self.body), None
@@ -50,6 +54,7 @@ class Said:
         self.take_cookies()
         if given.insecure:
             self.note("-k changes nothing: a page cannot ask a server whose certificate is not trusted")
+        self.note_left_out()
 
     def note(self, sentence):
         if sentence not in self.notes:
@@ -78,7 +83,7 @@ class Said:
         if self.load or self.mode or mode is None:
             return
         if mode == "navigate":
-            self.note("the copied request opened a page, which is not played: it is asked as a script's fetch")
+            self.was_navigation = True
         elif kind in KINDS and self.body is None and self.method in (None, "GET"):
             self.load = kind
             with_cookies = self.given.pasted or "cookie" in self.values
@@ -98,13 +103,17 @@ class Said:
         if word == "cookie":
             return False
         if word in ABOUT_PAGE:
-            if self.given.page:
-                self.note("`%s` is left out: --from names the page" % name)
+            self.left_out += [(name, "--from names the page")] if self.given.page else []
             return False
         reason = self.reason_against(word, value)
-        if reason:
-            self.note("`%s` is left out: %s" % (name, reason))
+        self.left_out += [(name, reason)] if reason else []
         return reason is None
+
+    def note_left_out(self):
+        """All headers that are left out, in one note: first those that a script may have set."""
+        if self.left_out:
+            mine = [pair for pair in self.left_out if pair[1] in (ELEMENT, NO_CORS)]
+            self.note("left out: " + guards.told(mine + [pair for pair in self.left_out if pair not in mine]))
 
     def reason_against(self, word, value):
         if word in ADDED:
@@ -114,9 +123,9 @@ class Said:
         if is_forbidden(word, value):
             return HERE.get(word) or guards.in_place(word, value) or OWN
         if self.load and self.given.load is None:
-            return "an element sets no header"
+            return ELEMENT
         if self.mode == "no-cors" and word not in guards.NO_CORS:
-            return "in mode no-cors a script sets %s alone" % ", ".join(guards.NO_CORS)
+            return NO_CORS
         return None
 
     # ---- cookies

@@ -90,7 +90,7 @@ class Document:
         self.key = key
         self.line = line
         self.fetches = []
-        self.ending = None
+        self.ending = self.last = None
 
 
 class Play:
@@ -167,6 +167,7 @@ class Reader:
             self.at += 1
             self.refuse()
         document.ending = found.group(1)
+        document.last = self.at
         return document
 
     def fetch(self, fetch):

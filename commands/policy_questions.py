@@ -1,13 +1,16 @@
-"""What bin/expect does with `allowed`, `blocked` and `reported`: asks the policies of a test's documents for URLs. It plays
-a scenario of its own, in which each document loads what it is asked for, from servers that let every page read."""
+"""What bin/expect does with `allowed`, `blocked`, `reported`, `violating` and `not violating`: asks the policies of a
+test's documents for URLs. It plays a scenario of its own, in which each document loads what it is asked for, from
+servers that let every page read."""
 import json
 import re
 
-from commands import asking
+from commands import asking, csp, findings
+from commands.explanations import explain, explain_policies, lines_of
 from commands.refusals import nearest
 from commands.scenario import joined, origin_of
 
-KEYS = ("allowed", "blocked", "reported")
+KEYS = ("allowed", "blocked", "reported", "violating", "not violating")
+KEPT_OUT = ("blocked", "reported", "violating")
 KINDS = ("fetch", "image", "audio", "video", "style", "script", "font", "manifest")
 ITEM = re.compile(r"(?:document ([0-9]{1,3}) )?(\S+) (\S.*)", re.S)
 EXAMPLE = '"script https://cdn.example/app.js"'
@@ -51,8 +54,9 @@ def problem(text):
     return None
 
 
-def differences(expect, scenario):
-    """Lines for each question that is answered otherwise than expected."""
+def differences(expect, scenario, kept_out, passing):
+    """Lines for each question that is answered otherwise than expected. What is to pass is added to `passing`: the
+    number of the document, the case, and whether enforced policies and those that only report are to let it pass."""
     questions = [Question(key, text) for key in KEYS for text in listed(expect.get(key, []))]
     count = len(scenario.documents())
     for question in questions:
@@ -61,7 +65,28 @@ def differences(expect, scenario):
                 question.key, question.text, count, "" if count == 1 else "s")
     known = [question for question in questions if question.document < count]
     for case, question in answered(scenario.data, known):
+        if case and question.key in ("allowed", "not violating"):
+            keep_out(case, kept_out.get(question.document))
+            passing.append((question.document, case, True, question.key == "not violating"))
         yield from difference(question, case)
+
+
+def kept_out(expect, documents):
+    """By the number of a document what is to violate its policies."""
+    found = {}
+    for question in (Question(key, text) for key in KEPT_OUT for text in listed(expect.get(key, []))):
+        if question.document < len(documents):
+            page = documents[question.document]["url"]
+            asked = csp.Asked(joined(question.url, page), page, question.kind, "", "", True, False)
+            found.setdefault(question.document, []).append(asked)
+    return found
+
+
+def keep_out(case, kept_out):
+    """Has what is advised of a case let nothing pass that a test wants to be kept out."""
+    if kept_out:
+        case.kept_out = kept_out
+        case.explanation, case.policies_told = explain(case), explain_policies(case)
 
 
 def listed(wanted):
@@ -122,14 +147,57 @@ def difference(question, case):
     if case is None:
         yield "%s: %s was not asked: the play of its document has too many lines" % (question.key, question.text)
         return
-    came = case.result.short()
-    if question.key == "reported":
-        if not any(not one.enforced for one in case.fetch.of("violation")):
-            yield "reported: expected that a report-only policy reports %s; none does" % question.text
-        return
+    violations = findings.told_violations(case)
+    is_reported = any(not one.enforced for one in case.fetch.of("violation"))
     is_blocked = not case.result.is_fault and case.result.number in POLICY_ERRORS
-    if question.key == "blocked" and not is_blocked:
-        yield "blocked: expected that a policy refuses %s; it came to %s" % (question.text, came)
-    if question.key == "allowed" and (is_blocked or not case.exchanges):  # by another rule, where nothing is sent
-        yield "allowed: expected that %s is let through; it came to %s" % (question.text, came)
-        yield from ("  " + line for line in (case.explanation.lines() if case.explanation else []))
+    yield from DIFFERENCES[question.key](question.text, case, violations, is_blocked, is_reported)
+
+
+def not_allowed(text, case, violations, is_blocked, is_reported):
+    if is_blocked or not case.exchanges:  # by another rule, where nothing is sent
+        yield "allowed: expected that %s is let through; it came to %s" % (text, case.result.short())
+        yield from ("  " + line for line in lines_of(case))
+
+
+def not_blocked(text, case, violations, is_blocked, is_reported):
+    if not is_blocked:
+        hint = "; a policy that only reports reports it: `violating` holds of both" if is_reported else ""
+        yield "blocked: expected that a policy refuses %s; it came to %s%s" % (text, case.result.short(), hint)
+        yield from () if hint else let_through(case)
+
+
+def not_reported(text, case, violations, is_blocked, is_reported):
+    if not is_reported:
+        hint = "; a policy that is enforced refuses it: `violating` holds of both" if is_blocked else ""
+        yield "reported: expected that a report-only policy reports %s; none does%s" % (text, hint)
+        yield from () if hint else let_through(case)
+
+
+def not_violating(text, case, violations, is_blocked, is_reported):
+    if not violations:
+        yield "violating: expected that %s violates a policy; it violates none" % text
+        yield from let_through(case)
+
+
+def violating(text, case, violations, is_blocked, is_reported):
+    if violations:
+        yield "not violating: expected that %s violates no policy; there is %s" % (text, "; ".join(violations))
+        yield from ("  " + line for line in lines_of(case, True))
+
+
+def let_through(case):
+    """Why each policy lets it pass."""
+    effective = csp.EFFECTIVE[case.kind]
+    for number, (enforced, policy) in enumerate(case.policies):
+        name, words = csp.deciding(policy, effective)
+        asked = [one for one in case.questions() if one.policy == number and not one.at_response][:1]
+        word = next((word for word in words for one in asked if csp.matches(word, case.asked_of(one))), None)
+        told = "  policy %d%s has " % (number, "" if enforced else " (report-only)")
+        if name not in policy:
+            yield told + "none of " + ", ".join("`%s`" % one for one in csp.deciders(effective))
+        elif word:
+            yield told + "`%s %s`, where `%s` matches it" % (name, " ".join(words), word)
+
+
+# The lines of each key.
+DIFFERENCES = dict(zip(KEYS, (not_allowed, not_blocked, not_reported, not_violating, violating)))

@@ -9,8 +9,8 @@ from commands.ask_words import Wrong
 TELLING = 1  # seconds, behind the time limit, to tell what came
 
 # What is printed of one URL: `story` are pairs of a line of the play and lines of our own; `faults` are notes that no
-# word keeps back; `data` is the same for --json.
-Reply = namedtuple("Reply", "status verdict story notes faults data")
+# word keeps back; `data` is the same for --json; `in_all` are lines of all that CORS wants of the answers.
+Reply = namedtuple("Reply", "status verdict story notes faults data in_all", defaults=[()])
 
 
 def replied(given, url):
@@ -43,7 +43,8 @@ def refusal(sentence):
 
 def reply_of(one):
     status, sentence = one.verdict
-    return Reply(status, sentence, list(one.pieces()), one.notes(), [], {"fetches": one.told.data()})
+    in_all = verdicts.in_all(one.told.cases[-1])
+    return Reply(status, sentence, list(one.pieces()), one.notes(), [], {"fetches": one.told.data()}, in_all)
 
 
 def late(one):
@@ -61,7 +62,7 @@ def told_data(url, reply):
 
 
 def write_story(reply):
-    streams.write_lines(["# " + reply.verdict])
+    streams.write_lines("# " + line for line in [reply.verdict, *reply.in_all])
     for line, own in reply.story:
         streams.write_play(line)
         streams.write_lines(own)

@@ -33,10 +33,11 @@ def joined(url, base):
 
 class Command:
     """A fetch or a load that a script made: `options` are its keys, with what stands for those that are missing; `url` is
-    its text after templates; `path` leads to it."""
+    its text after templates; `path` leads to it; `waited` is how many seconds the script had waited by then."""
 
-    def __init__(self, path, kind, given, last):
+    def __init__(self, path, kind, given, last, waited=0):
         self.path = path
+        self.waited = waited
         self.is_load = kind == "load"
         self.options = {**FETCH, **given} if kind == "fetch" else load_options(given)
         self.url = filled(given["url"], last)
@@ -45,6 +46,11 @@ class Command:
 
     def includes(self):
         return self.options["credentials"] == "include"
+
+    def headers_of_templates(self):
+        """The names of those headers of the last result that its templates put in."""
+        texts = [self.options["url"], self.options["body"] or "", *(value for _, value in self.options["headers"])]
+        return [found.group(2) for text in texts for found in TEMPLATE.finditer(text) if found.group(2)]
 
 
 def load_options(given):
@@ -90,6 +96,7 @@ class Walk:
     def __init__(self, script, path):
         self.last = None
         self.started = 0
+        self.waited = 0
         self.ahead = self.commands(script, path)
 
     def step(self):
@@ -103,7 +110,9 @@ class Walk:
             own = path + [index]
             kind = next((word for word in ("fetch", "load") if word in command), None)
             if kind:
-                yield Command(own + [kind], kind, command[kind], self.last)
+                yield Command(own + [kind], kind, command[kind], self.last, self.waited)
+            elif "wait" in command:
+                self.waited += command["wait"]
             elif "repeat" in command:
                 for _ in range(command["repeat"]):
                     if self.started > MOST_COMMANDS:
@@ -127,6 +136,9 @@ class Scenario:
         self.data = root.plain() if data is None else data
         self.rules_by = {}
         self.told_by = {}
+        self.mended_by = {}
+        self.budget = None  # of what is mended
+        self.answers = {}  # of its rules, by the numbers of the server and the rule
 
     def servers(self):
         return self.data.get("servers", [])
@@ -156,6 +168,25 @@ class Scenario:
             self.rules_by[server] = {(rule.get("method"), target_of(rule)): index for index, rule in backwards}
         return self.rules_by[server]
 
+    def mended_policies(self, number):
+        """Those of a document, each as it is meant where it is warned of (lints/mending.py)."""
+        return self.mended(number)[0]
+
+    def unread_policies(self, number):
+        """Those of headers whose name is misspelt."""
+        return self.mended(number)[1]
+
+    def mended(self, number):
+        """Both, once for each document."""
+        if number not in self.mended_by:
+            from commands import lints
+            from commands.lints import mending, reading  # where there are headers
+            self.budget = self.budget or reading.Budget()
+            document = self.documents()[number]
+            given = document.get("headers", []), document["url"], lints.asks_of(document), self.budget
+            self.mended_by[number] = mending.of_document(*given), list(mending.unread(*given))
+        return self.mended_by[number]
+
     def told_rules(self, server):
         """Some of the requests that a server has rules for, in words."""
         if server not in self.told_by:
@@ -181,6 +212,15 @@ class Scenario:
     @functools.cached_property
     def routes(self):
         return {origin: address for origin, address in reversed(self.data.get("routes", []))}
+
+    @functools.cached_property
+    def askers(self):
+        """The origins of the pages that ask for a URL, by its origin and its request target."""
+        from commands.lints import asks_of  # which reads this module
+        found = {}
+        for ask in [ask for document in self.documents() for ask in asks_of(document)]:
+            found.setdefault((ask.origin, ask.target), set()).add(ask.page_origin)
+        return found
 
     def documents(self):
         return self.data["documents"]

@@ -1,8 +1,11 @@
 """A play with the answers of the servers and the explanations between its lines. Each line that is not of the play begins
 with `<` or `#`, so the play is what is left without them."""
+import functools
+
 from commands import answers
 from commands.case import Case
 from commands.explanations import explain, explain_policies
+from commands.known_hosts import Book, named, sites
 from commands.notes import notes
 
 LONGEST = 200  # bytes of a line
@@ -13,11 +16,15 @@ class Told:
 
     def __init__(self, scenario, play, answer_of, is_net=False):
         scenario.attach(play)
+        self.scenario = scenario
         self.play = play
         self.cases = []
+        hosts, books = named(scenario), {}
+        by_site = sites(hosts)
         for fetch in play.fetches():
             exchanges = [(request, answer_of(request)) for request in fetch.of("send")]
             case = Case(scenario, fetch, exchanges, is_net)
+            case.plain_reasons = books.setdefault(fetch.document.number, Book(hosts, by_site)).reasons(case)
             case.explanation = explain(case)
             case.policies_told = explain_policies(case)
             case.notes = notes(case)
@@ -31,8 +38,24 @@ class Told:
             for request, answer in case.exchanges:
                 behind.setdefault(request.last, []).extend("< " + line for line in answer_lines(answer))
             behind.setdefault(case.result.last, []).extend("# " + line for line in own_lines(case))
+        for document in self.play.documents:
+            wholes = self.whole_policies.get(document.number, [])
+            behind.setdefault(document.last, []).extend("# " + one.line() for one in wholes if one.is_told)
         for number, line in enumerate(self.play.lines, 1):
             yield line, behind.get(number, [])
+
+    @functools.cached_property
+    def whole_policies(self):
+        """By the number of a document each of its policies that has changes, with all of them."""
+        by_document = {}
+        for case in self.cases:
+            by_document.setdefault(case.fetch.document.number, []).append(case)
+        known = {number: own for number, own in by_document.items()
+                 if own[0].document.get("headers") and (own[0].policies or self.scenario.unread_policies(number))}
+        if not known:
+            return {}
+        from commands.whole_policies import whole
+        return {number: whole(self.scenario, number, own) for number, own in known.items()}
 
     def data(self):
         return [case_data(case) for case in self.cases]
@@ -51,13 +74,23 @@ def shown(data):
 
 
 def answer_lines(answer):
-    """The head as it came, and how long the body is."""
+    """The head as it came, and how long the body is: of a scripted server, since how much of a real one's came before
+    the connection was closed depends on time."""
     if answer is None:
         return []
     if answer.head is None:
-        return [shown(answer.data)] if answer.data else ["(nothing came)"]
-    lines = answer.data[:answer.head.end].strip(b"\r\n").splitlines()
-    return [shown(line) for line in lines] + ["(%d bytes follow)" % (len(answer.data) - answer.head.end)]
+        return [headless_line(answer)]
+    lines = [shown(line) for line in answer.data[:answer.head.end].strip(b"\r\n").splitlines()]
+    return lines + ([f"({len(answer.data) - answer.head.end} bytes follow)"] if answer.is_scripted else [])
+
+
+def headless_line(answer):
+    """What came in the place of a head."""
+    if not answer.data:
+        return "(nothing came)"
+    if answer.is_scripted:
+        return shown(answer.data)
+    return shown(answer.data[:LONGEST]) + (" ..." if len(answer.data) > LONGEST else "")
 
 
 def case_data(case):

@@ -141,7 +141,7 @@ def directive_of(case: Case, kind: str) -> str:
         return "https"
     refusing = next((one for one in case.violations if one.enforced), None)
     number = case.result.number
-    is_by_policy = refusing is not None and (number in (4, 19) or case.verdict == "none")
+    is_by_policy = refusing is not None and (number in (4, 19) or case.is_unloaded)
     return case.of_violation(refusing).directive[0] if is_by_policy else NETWORK_ERRORS[number - 1] if number else ""
 
 

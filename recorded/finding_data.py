@@ -3,6 +3,7 @@ from __future__ import annotations
 
 from typing import Any
 
+from commands import verdicts
 from recorded.model import Chain
 from recorded.verdicts import (PARTED, PASSED, REFUSED, UNJUDGED, UNREACHED, Finding, explanation_of, failed_of,
                                is_refused, is_unanswered)
@@ -21,6 +22,8 @@ def data_of(finding: Finding) -> dict[str, Any]:
         "failed": finding.is_kept_back or finding.verdict != UNJUDGED and failed_of(chain) is not None,
         "result": case.result.short() if case else None, "certainty": finding.certainty, "how_sure": finding.how_sure,
         "told": finding.told, "rule": finding.rule, "why": explanation.data() if explanation else None,
+        "brief": "; ".join([explanation.condition, *verdicts.changes_of(case)]) if explanation else None,
+        "redirected_to": case.url if explanation and case.is_redirected else None,
         "directive": enforced[0].directive if enforced and finding.verdict != PASSED else None,
         "policies": [policy.data() for policy in case.policies_told if policy is not explanation] if violations else [],
         "guesses": command.asked.all_guesses,

@@ -5,6 +5,7 @@ from __future__ import annotations
 from collections import Counter
 from typing import Any
 
+from commands import whole_policies
 from recorded import differences, doubts, finding_data, least, parts as parting, verdicts
 from recorded.changes import NONE, Changes
 from recorded.model import Page, Recording
@@ -84,9 +85,20 @@ def page_data(page: Page, judged: list[tuple[Part, list[Finding]]], recording: R
         "url": page.url, "top": page.top, "entry": page.entry.number if page.entry else None,
         "entries": count_of(page), "verdict": verdict_of(findings),
         "findings": [finding_data.data_of(finding) for finding in findings],
-        "parts": parted,
+        "policies": policies_of(findings), "parts": parted,
         "left_out": [{"entry": entry.number, "url": entry.url, "why": why} for entry, why in page.left_out],
         "warnings": doubts.of_page(page), "notes": notes}
+
+
+def policies_of(findings: list[Finding]) -> list[str]:
+    """The page's policies for which several changes are named, with all of them, where a policy refused something.
+    What parted is left out: the browser did not ask the policy so."""
+    failed = [finding.case for finding in findings if finding.verdict in (verdicts.REFUSED, verdicts.UNREACHED)]
+    if not any(one.enforced for case in failed for one in case.violations):
+        return []
+    passed = [finding.case for finding in findings if finding.verdict == verdicts.PASSED]
+    wholes = whole_policies.whole(failed[0].scenario, 0, failed + passed)
+    return [one.sentence() for one in wholes if one.is_told and not one.is_same]
 
 
 def count_of(page: Page) -> int:

@@ -14,7 +14,8 @@ from commands.explanations import Explanation, PolicyExplanation, explain, expla
 from commands.notes import notes
 from commands.scenario import Scenario
 from recorded.changes import NONE, Changes
-from recorded.rules import PASSING, Supposed
+from recorded.model import Chain
+from recorded.rules import PASSING, Supposed, is_supposed
 from recorded.scenarios import Layer, Part, layers_of
 
 COMMAND = re.compile(r"/documents/0/script/(\d+)(?:/.*)?")
@@ -28,7 +29,17 @@ TOO_LONG = "the play of its page ended before it"
 
 
 class PlayedCase(Case):
-    """A case that is explained where it is asked why: most of a recording pass, and nobody asks."""
+    """A case that is explained where it is asked why: most of a recording pass, and nobody asks. `recorded` is the
+    chain that it is the play of."""
+
+    recorded: Optional[Chain] = None
+
+    @property
+    def own_head(self) -> Optional[answers.Head]:
+        """That of the recording: a supposed one is not known."""
+        number = len(self.chain) - (not play_text.is_preflight(self.request))
+        hops = self.recorded.hops[number:number + 1] if self.recorded else []
+        return None if any(map(is_supposed, hops)) else super().own_head
 
     @cached_property
     def explanation(self) -> Optional[Explanation]:
@@ -57,6 +68,8 @@ def played(part: Part, supposed: Supposed = PASSING, changes: Changes = NONE) ->
     found = Played(problems=left)
     for layer in layers:
         play_layer(layer, found)
+    for number, case in found.cases.items():
+        case.recorded = part.commands[number].chain
     return found
 
 

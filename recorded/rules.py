@@ -2,6 +2,8 @@
 where they are not."""
 from __future__ import annotations
 
+import difflib
+import functools
 import re
 from dataclasses import dataclass
 from typing import Any, Optional
@@ -93,9 +95,14 @@ def rule_of(hop: Entry, passing: list[tuple[str, str]], supposed: Supposed) -> d
     """The answer of one hop."""
     if hop.is_hidden and supposed.bare:
         return answer(200, [])
-    if hop.is_hidden or hop.is_still_good or hop.is_from_worker:
+    if is_supposed(hop):
         return answer(200, passing)
     return answer(hop.status, read_of(hop))
+
+
+def is_supposed(hop: Entry) -> bool:
+    """Whether the answer that the page saw is not recorded."""
+    return hop.is_hidden or hop.is_still_good or hop.is_from_worker
 
 
 def preflight_rule(command: Command, hop: Entry, preflight: Optional[Entry], passing: list[tuple[str, str]],
@@ -130,9 +137,15 @@ def passing_headers(origin: str) -> list[tuple[str, str]]:
 
 def read_of(entry: Entry) -> list[tuple[str, str]]:
     """The headers of an answer that are looked at."""
-    found = [(name, value) for name, value in entry.got if name.lower() in READ]
+    found = [(name, value) for name, value in entry.got if is_read(name.lower())]
     is_led = entry.status in REDIRECTS and entry.redirect and entry.answered("Location") is None
     return found + ([("Location", entry.redirect)] if is_led else [])
+
+
+@functools.lru_cache(1024)
+def is_read(name: str) -> bool:
+    """Whether it is one of READ, or a misspelt one."""
+    return name in READ or bool(difflib.get_close_matches(name, READ, 1, 0.85))
 
 
 def answer(status: int, headers: list[tuple[str, str]]) -> dict[str, Any]:

@@ -18,7 +18,7 @@ from recorded.changes import NONE, Changes
 from recorded.commands_of import Command
 from recorded.known_hosts import Book
 from recorded.model import Entry, Page
-from recorded.rules import PASSING, READ, Rules, Supposed, rules_of
+from recorded.rules import PASSING, Rules, Supposed, is_read, rules_of
 
 DOCUMENT_HEADERS = (*csp.HEADERS, "referrer-policy")
 MOST_COMMANDS = 1000  # of a part
@@ -68,7 +68,7 @@ def parts_of(page: Page) -> list[Part]:
 
 def size_of(entry: Entry) -> int:
     """How long an answer becomes in a scenario, or less."""
-    texts = [entry.url, *(value for name, value in entry.got if name.lower() in READ)]
+    texts = [entry.url, *(value for name, value in entry.got if is_read(name.lower()))]
     return 200 + sum(len(text) * (1 if text.isascii() else 6) for text in texts)
 
 
@@ -149,8 +149,8 @@ def document_headers(page: Page, changes: Changes = NONE) -> list[tuple[str, str
     kept: list[tuple[str, str]] = []
     for name, value in [*headers, *(("Content-Security-Policy", one) for one in policies)]:
         value = " ".join(re.sub(r"[\x00-\x1f\x7f]+", " ", value).split())
-        is_read = name.lower() in DOCUMENT_HEADERS
-        if is_read and len(csp.numbered([*kept, (name, value)])) <= MOST_POLICIES:
+        is_kept = name.lower() in DOCUMENT_HEADERS
+        if is_kept and len(csp.numbered([*kept, (name, value)])) <= MOST_POLICIES:
             kept.append((name, value))
     return kept
 

@@ -4,7 +4,7 @@ from __future__ import annotations
 
 from typing import Any, Iterator, Optional
 
-from commands.summaries import shown
+from commands.verdicts import shown
 from recorded.differences import STANDARDS
 from recorded.kinds import WITHOUT
 from recorded.verdicts import WORDS
@@ -28,6 +28,7 @@ def lines(found: dict[str, Any], is_brief: bool) -> Iterator[str]:
         yield heading(page)
         for finding in told_of(page):
             yield from finding_lines(finding, is_brief)
+        yield from (f"  in all: {policy}" for policy in page["policies"])
         if not is_brief:
             yield from rest_of_page(page)
     if not found["pages"]:
@@ -53,15 +54,15 @@ def told_of(page: dict[str, Any]) -> list[dict[str, Any]]:
 
 
 def finding_lines(finding: dict[str, Any], is_brief: bool) -> Iterator[str]:
-    why = finding["why"]
-    said = why["condition"] if why and finding["verdict"] != "parted" else finding["told"]
-    change = f"; {why['change']}" if why and is_brief and finding["verdict"] != "parted" else ""
-    yield f"  {WORDS[finding['verdict']]}: {name_of(finding)}: {said}{change}"
+    why, is_parted = finding["why"], finding["verdict"] == "parted"
+    said = finding["told"] if is_parted or not why else finding["brief"] if is_brief else why["condition"]
+    yield f"  {WORDS[finding['verdict']]}: {name_of(finding)}: {said}"
     if is_brief:
+        yield from in_all(why) if why and not is_parted else ()
         return
     if why:
         yield from why_lines(finding, why)
-    if finding["verdict"] == "parted":
+    if is_parted:
         yield "    " + rule_of(finding["rule"])
     if finding["how_sure"]:
         yield f"    {SURE[finding['certainty']]}: {finding['how_sure']}"
@@ -70,7 +71,8 @@ def finding_lines(finding: dict[str, Any], is_brief: bool) -> Iterator[str]:
 
 
 def name_of(finding: dict[str, Any]) -> str:
-    return f"{finding['method']} {shown(finding['url'])} ({finding['kind']})"
+    led = f", redirected to {shown(finding['redirected_to'])}" if finding["redirected_to"] else ""
+    return f"{finding['method']} {shown(finding['url'])} ({finding['kind']}){led}"
 
 
 def why_lines(finding: dict[str, Any], why: dict[str, Any]) -> Iterator[str]:
@@ -82,11 +84,16 @@ def why_lines(finding: dict[str, Any], why: dict[str, Any]) -> Iterator[str]:
         if why["misspelt"]:
             yield f"    header: is `{why['misspelt']}` meant for it?"
     yield f"    change: {why['change']}"
-    yield from (f"    in all: {need}" for need in why["needs"])
+    yield from in_all(why)
     for policy in finding["policies"]:
         yield f"    policy: {policy['condition']}"
         yield f"    change: {policy['change']}"
     yield f"    rule: {why['rule']} ({why['way']})"
+
+
+def in_all(why: dict[str, Any]) -> Iterator[str]:
+    """All that CORS wants of the answers."""
+    return (f"    in all: {line}" for line in why["in_all"])
 
 
 def rest_of_page(page: dict[str, Any]) -> Iterator[str]:

@@ -79,12 +79,8 @@ def failed_of(chain: Chain) -> Optional[Entry]:
 # ---- what a case comes to
 
 def is_refused(case: Case, command: Command) -> bool:
-    """Whether the standards refuse it, by what is recorded: of a URL that is not played, whether a policy does."""
-    if case.verdict == "none":
-        return any(one.enforced for one in case.violations)
-    if lacks_body(case, command):
-        return False
-    return case.result.is_refused()
+    """Whether the standards refuse it, by what is recorded."""
+    return case.verdict == "refused" and not lacks_body(case, command)
 
 
 def lacks_body(case: Case, command: Command) -> bool:
@@ -104,8 +100,8 @@ def upgrade_of(case: Case) -> Optional[str]:
 
 
 def explanation_of(case: Case) -> Optional[Explanation]:
-    """Why a case came to what it came: of a URL that is not played, the policy that refuses it."""
-    refusing = [policy for policy in case.policies_told if policy.enforced] if case.verdict == "none" else []
+    """Why a case came to what it came: of a URL that this engine does not load, the policy that refuses it."""
+    refusing = [policy for policy in case.policies_told if policy.enforced] if case.is_unloaded else []
     return refusing[0] if refusing else case.explanation
 
 

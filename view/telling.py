@@ -1,9 +1,10 @@
 """The text of a play with what bin/why says between its lines: the answers, why each fetch came to what it came, and
 what to change. Where nothing can be said the play stays as it is, with a line that says so."""
-from commands import asking, doubts, play_text, summaries, told
+from commands import asking, doubts, play_text, told, verdicts
 from commands.scenario import Scenario
 
 LONGEST = 262144  # bytes of a scenario or of a play: of a longer one nothing is said
+MOST = 20  # verdicts above a diagram
 
 
 def told_text(data, text):
@@ -25,10 +26,10 @@ def lines(data, text):
     source, root = asking.read(data)
     scenario = Scenario(root)
     all_told = told.scripted(scenario, play_text.read(text))
-    for line in summaries.heading(all_told):
+    for line in verdicts.heading(all_told, MOST):
         yield "# " + " ".join(line.splitlines())
-    for place, sentence in doubts.doubts(scenario, all_told.play, False):
-        yield "# warning: line %d of the scenario: %s" % (source.count("\n", 0, place) + 1, sentence)
+    for one in doubts.doubts(scenario, all_told.play, False):
+        yield "# warning: line %d of the scenario: %s" % (source.count("\n", 0, one.at) + 1, one.told)
     behind = [own for _, own in all_told.pieces()]
     for line, own in zip(all_told.play.lines, behind):
         yield line

@@ -55,85 +55,78 @@ def lines():
 # ---- scenarios
 
 class Place:
-    """A thing of a scenario with the node that it stands in: the list of headers, the raw answer, or the command."""
+    """A thing of a scenario, and the path to what it stands in: the list of headers, the raw answer, or the command."""
 
-    def __init__(self, node, things):
-        self.node = node
+    def __init__(self, path, things, url):
+        self.path = path
         self.things = things
+        self.url = url
 
-    def of(self, finding):
-        """The place of the text."""
-        if self.node.kind == "string":
-            return self.node.start
-        if self.node.kind == "object":
-            return (self.node.member("integrity") or self.node).start
-        value = self.node.items[finding.at].items[0 if finding.is_name else 1]
+    def of(self, finding, root):
+        """The place of the text, whose tree is `root`."""
+        node = root.at(self.path)
+        if node.kind == "string":
+            return node.start
+        if node.kind == "object":
+            return (node.member("integrity") or node).start
+        value = node.items[finding.at].items[0 if finding.is_name else 1]
         part = finding.text and re.search(r'(?<![^\s;,"])%s(?![^\s;,"])' % re.escape(finding.text), value.text)
         return value.start + (part.start() if part else 0)
 
 
 def in_scenario(scenario):
     """Findings, each with its place in the text; of what a play does not look at the first alone."""
-    return list(islice(without_repeats(places(scenario, Budget())), MOST_FOUND))
+    found = islice(without_repeats(places(scenario, Budget())), MOST_FOUND)
+    return [(place.of(finding, scenario.root), finding) for place, finding in found]
 
 
 def without_repeats(found):
     notes = set()
     for place in found:
         for finding in found_in(place.things):
+            finding.url = place.url
             if finding.sentence not in notes:
-                yield place.of(finding), finding
+                yield place, finding
             if finding.lint.is_note:
                 notes.add(finding.sentence)
 
 
-def of_scenario(scenario):
-    """Pairs of a place of the text and a sentence."""
-    return [(place, finding.sentence) for place, finding in in_scenario(scenario)]
-
-
 def places(scenario, budget):
-    nodes = scenario.root.member("documents").items
-    pages = list(zip(nodes, scenario.documents()))
-    asks = [Asks(node, document) for node, document in pages]
-    for (node, document), own in zip(pages, asks):
-        if node.member("headers"):
-            headers = Headers(DOCUMENT, document["headers"], document["url"], own.all)
-            yield Place(node.member("headers"), headers.things(budget))
-        yield from own.places(budget)
-    yield from answer_places(scenario, [ask for own in asks for ask in own.all], budget)
+    asks = list(map(asks_of, scenario.documents()))
+    for number, document in enumerate(scenario.documents()):
+        path = ["documents", number]
+        if "headers" in document:
+            headers = Headers(DOCUMENT, document["headers"], document["url"], asks[number])
+            yield Place([*path, "headers"], headers.things(budget), document["url"])
+        yield from command_places(document, path, budget)
+    yield from answer_places(scenario, [ask for own in asks for ask in own], budget)
 
 
-class Asks:
-    """What a document's scripts ask for, as far as their text says it: without what templates put in."""
-
-    def __init__(self, node, document):
-        self.page = document["url"]
-        self.nodes = list(commands(node.member("script")))
-        self.all = [self.ask(kind, own.plain()) for kind, own in self.nodes if "${" not in own.member("url").value]
-
-    def ask(self, kind, given):
-        return Ask(self.page, given["kind"] if kind == "load" else "fetch", given["url"],
-                   [name for name, _ in given.get("headers", [])], given.get("method"))
-
-    def places(self, budget):
-        for kind, node in self.nodes:
-            given = node.plain()
-            if given.get("integrity"):
-                yield Place(node, [Options(self.page, given, kind == "load")])
-            if given.get("headers"):
-                headers = Headers(COMMAND, given["headers"], given["url"])
-                yield Place(node.member("headers"), headers.things(budget))
+def asks_of(document):
+    """What a document's script asks for, as far as its text says it: without what templates put in."""
+    return [Ask(document["url"], given["kind"] if kind == "load" else "fetch", given["url"],
+                [name for name, _ in given.get("headers", [])], given.get("method"))
+            for _, kind, given in commands(document["script"]) if "${" not in given["url"]]
 
 
-def commands(script):
-    """The fetches and loads of a script, in the lists of others too, as pairs of a kind and a node."""
-    for command in script.items:
-        for key, value in command.members:
-            if key.value in ("fetch", "load"):
-                yield key.value, value
-            elif key.value in ("do", "then", "else"):
-                yield from commands(value)
+def command_places(document, path, budget):
+    for own, kind, given in commands(document["script"], [*path, "script"]):
+        if given.get("integrity"):
+            yield Place(own, [Options(document["url"], given, kind == "load")], given["url"])
+        if given.get("headers"):
+            headers = Headers(COMMAND, given["headers"], given["url"])
+            yield Place([*own, "headers"], headers.things(budget), given["url"])
+
+
+def commands(script, path=()):
+    """The fetches and loads of a script, in the lists of others too: of each the path to it, its kind, and its
+    options."""
+    for index, command in enumerate(script):
+        for key, value in command.items():
+            if key in ("fetch", "load"):
+                yield [*path, index, key], key, value
+            elif key in ("do", "then", "else"):
+                yield from commands(value, [*path, index, key])
 
 
 class Rules:
@@ -158,15 +151,15 @@ def answer_places(scenario, asks, budget):
     by_origin = {}
     for ask in asks:
         by_origin.setdefault(ask.origin, []).append(ask)
-    servers = scenario.root.member("servers")
-    for node, server in zip(servers.items if servers else [], scenario.servers()):
+    for number, server in enumerate(scenario.servers()):
         rules = Rules(server["rules"], by_origin.pop(server["origin"], []))
-        for index, (item, rule) in enumerate(zip(node.member("rules").items, server["rules"])):
+        for index, rule in enumerate(server["rules"]):
             pairs = rule.get("headers") or raw_headers(rule)
             if pairs:
                 headers = Headers(ANSWER, pairs, server["origin"] + rule.get("path", "/"), rules.asks.get(index, []),
                                   rules.preflights.get(index, []))
-                yield Place(item.member("headers") or item.member("raw"), headers.things(budget))
+                path = ["servers", number, "rules", index, "headers" if rule.get("headers") else "raw"]
+                yield Place(path, headers.things(budget), headers.url)
 
 
 def raw_headers(rule):
@@ -177,13 +170,14 @@ def raw_headers(rule):
 # ---- what real servers answered
 
 def of_answers(told_play):
-    """A URL, a header's name and a sentence for each finding in what real servers answered."""
+    """A URL, a header's name, a sentence and a lint's name for each finding in what real servers answered."""
     found, budget = {}, Budget()
     for case in told_play.cases:
         for request, answer in case.exchanges:
             if answer is not None and answer.head is not None and len(found) < MOST_FOUND:
                 for finding in found_in(headers_of(case, request, answer.head).things(budget)):
-                    found[request.origin + request.target, finding.header, finding.sentence] = None
+                    url = request.origin + request.target
+                    found[url, finding.header, finding.sentence, finding.lint.name] = None
     return list(found)
 
 
@@ -195,6 +189,7 @@ def headers_of(case, request, head):
 
 def notes(told_play):
     """What bin/ask says, of its words and of what was answered."""
-    sentences = [sentence for case in told_play.cases[:1] for _, sentence in of_scenario(case.scenario)]
-    sentences += ["%s: %s: %s" % one for one in of_answers(told_play)]
+    own = [finding for case in told_play.cases[:1] for _, finding in in_scenario(case.scenario)]
+    sentences = ["%s (%s)" % (finding.sentence, finding.lint.name) for finding in own]
+    sentences += ["%s: %s: %s (%s)" % one for one in of_answers(told_play)]
     return list(dict.fromkeys(sentences))

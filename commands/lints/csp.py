@@ -90,12 +90,24 @@ def is_idle_policy(policy):
 
 
 def does_nothing(policy):
-    return is_idle_policy(policy) and not policy.is_pasted and not comma(policy)
+    is_meant = any(one in grammar.SOURCES for one in meant_names(policy))
+    return is_idle_policy(policy) and not policy.is_pasted and not comma(policy) and not is_meant
+
+
+def meant_names(policy):
+    """The names of directives that are meant by misspelt ones and by those beyond ASCII, which is another lint."""
+    return [one.name if one.is_known else nearest(one.name, grammar.SOURCES + grammar.OTHERS)
+            for one in policy.directives if not (one.is_known and one.text.isascii())]
 
 
 def is_unheard(policy):
-    is_heard = any(name in policy.effective for name in REPORTING)
-    return policy.is_report_only and not is_heard and not is_idle_policy(policy)
+    return policy.is_report_only and not names_endpoint(policy) and not is_idle_policy(policy)
+
+
+def names_endpoint(policy):
+    """Also where the directive lacks its semicolon or is misspelt, which is another lint."""
+    words = (word.lower() for directive in policy.directives for word in (directive.name, *directive.rest))
+    return any(name in REPORTING for name in (*words, *meant_names(policy)))
 
 
 def comma(policy):

@@ -55,6 +55,14 @@ def insecure_report(word):
     return word.policy.headers.scheme == "https" and not is_loopback(word.place) and "https" + word.text[4:]
 
 
+def source_as_endpoint(word):
+    """Another origin without a path that the page asks, behind an endpoint. Reports go to each of them."""
+    if word.directive.name != "report-uri" or word.text == word.directive.rest[0]:
+        return None
+    origin = word.host and word.host.group("path") in (None, "", "/") and origin_of(word.text)
+    return bool(origin) and any(ask.is_foreign and ask.origin == origin for ask in word.policy.headers.asks)
+
+
 WORDS = [
     Lint("csp/semicolon-missing", "a word", missing_semicolon,
          "`{it.text}` stands as a word of `{it.directive.name}`, and is the name of a directive",
@@ -67,6 +75,9 @@ WORDS = [
          "write `'allow'` or `'block'`"),
     Lint("csp/report-over-http", "a word", insecure_report,
          "a page over https sends no report to `{it.text}`, which is mixed content", "write `{meant}`"),
+    Lint("csp/source-as-endpoint", "a word", source_as_endpoint,
+         "`{it.text}` stands in `report-uri`, so it is sent each report, and the page asks it for other things",
+         "write it in the directive whose source it is; or add the path of its endpoint", (DOCUMENT,)),
 ]
 
 
@@ -259,7 +270,7 @@ def wildcard_path(word):
 def folder(word):
     """A path whose slash is missing: the page loads what stands below it."""
     path = word.host and word.host.group("path")
-    if not path or path.endswith("/"):
+    if not path or path.endswith("/") or word.text + "/" in word.directive.rest:
         return None
     return next((url for url in word.asks() if unquote(urlsplit(url).path).startswith(unquote(path) + "/")), None)
 

@@ -11,7 +11,7 @@ def filled(text, it, meant):
     """A sentence with what stands for its names; of what is long the beginning."""
     def value(found):
         first, *names = found.group(1).split(".")
-        told = str(meant if first == "meant" else functools.reduce(getattr, names, it))
+        told = str(functools.reduce(getattr, names, meant if first == "meant" else it))
         return told if len(told) <= LONGEST else told[:LONGEST] + ".."
     return re.sub(r"\{([\w.]+)\}", value, text)
 
@@ -49,7 +49,8 @@ class Lint:
 
 class Finding:
     """What a lint says of a thing, and where that stands: the number of a header or the key of an option, and in
-    `header` the header's name or that key; `text` is the part of the value that it is said of, or None."""
+    `header` the header's name or that key; `text` is the part of the value that it is said of, or None. `url` is that
+    of the document, of what was answered, or of what is asked."""
 
     def __init__(self, lint, it, sentence):
         self.lint = lint
@@ -58,6 +59,15 @@ class Finding:
         self.is_name = lint.looks_at == "a header's name"
         self.text = getattr(it, "text", None)
         self.sentence = sentence
+        self.url = ""
+
+    def told(self):
+        """The sentence, with what it is said of and the lint's name."""
+        return "%s of %s: %s (%s)" % (self.header, shown(self.url), self.sentence, self.lint.name)
+
+
+def shown(url):
+    return url if len(url) <= LONGEST else url[:LONGEST] + ".."
 
 
 @functools.lru_cache(4096)

@@ -1,6 +1,8 @@
 """Lints of Strict-Transport-Security."""
 import functools
+import json
 import re
+from collections import namedtuple
 
 from commands.lints.entry import ANSWER, DOCUMENT, Lint, nearest
 from commands.lints.reading import is_address
@@ -9,6 +11,7 @@ HEADER = "Strict-Transport-Security"
 KNOWN = ("max-age", "includesubdomains", "preload")
 SPELT = {"max-age": "max-age", "includesubdomains": "includeSubDomains", "preload": "preload"}
 YEAR = 31536000
+LATE = 9999999999  # a second of the year 2286
 TOKEN = r"[!#$%&'*+\-.^_`|~0-9A-Za-z]+"
 PART = r"[ \t]*(?:%s[ \t]*(?:=[ \t]*(?:%s|\"(?:[^\"\\]|\\.)*\")[ \t]*)?)?" % (TOKEN, TOKEN)
 FIELD = re.compile(PART + "(?:;" + PART + ")*")
@@ -47,6 +50,19 @@ def fits(field):
     return FIELD.fullmatch(field.value) is not None
 
 
+# The text of a value, and the whole value as it was meant.
+Meant = namedtuple("Meant", "text whole")
+
+
+def whole(field, age=None):
+    """The whole value as it was meant: with its own max-age, where it has digits and none is given, and with the other
+    directives that stand in it."""
+    found = re.search(r"max-age\s*[=:]?\s*[\"'`\u2018\u201c]?(\d{1,3}(?:,\d{3})+|\d+)(?![A-Za-z.])", field.value, re.I)
+    own = found.group(1).replace(",", "") if found else YEAR
+    more = [SPELT[name] for name in KNOWN[1:] if re.search(name, field.value, re.I)]
+    return "; ".join(["max-age=%s" % (age or own), *more])
+
+
 # ---- what is found
 
 def in_quotes(field):
@@ -55,21 +71,21 @@ def in_quotes(field):
 
 
 def with_comma(field):
-    return "," in re.sub(r'"[^"]*"', "", field.value) and not in_quotes(field)
+    return "," in re.sub(r'"[^"]*"', "", field.value) and not in_quotes(field) and whole(field)
 
 
 def with_colon(field):
-    return re.search(r"max-age\s*:", field.value, re.I) is not None
+    return re.search(r"max-age\s*:", field.value, re.I) is not None and whole(field)
 
 
 def no_age(field):
-    return fits(field) and not has(field, "max-age")
+    return fits(field) and not has(field, "max-age") and whole(field)
 
 
 def quoted_age(field):
     text = age_of(field) or ""
-    found = re.match("[\"'`\u2018\u201c](\\d*)", text)
-    return found and not in_quotes(field) and (found.group(1) or "31536000")
+    found = re.match("[\"'`\u2018\u201c]", text)
+    return found and not in_quotes(field) and whole(field)
 
 
 def negative_age(field):
@@ -78,14 +94,14 @@ def negative_age(field):
 
 def blank_between(field):
     found = re.match(r"[0-9]+[ \t]+([A-Za-z].*)", age_of(field) or "")
-    return found and found.group(1)
+    return found and Meant(found.group(1), whole(field))
 
 
 def no_number(field):
     text = age_of(field)
     if not fits(field) or not has(field, "max-age") or quoted_age(field) or negative_age(field):
         return None
-    return not re.fullmatch("[0-9]+", text or "") and (text or "nothing")
+    return not re.fullmatch("[0-9]+", text or "") and Meant(text or "nothing", whole(field))
 
 
 def twice(field):
@@ -107,7 +123,8 @@ def of_address(field):
 
 
 def subdomains_value(field):
-    return fits(field) and any(name == "includesubdomains" and value is not None for name, value in parts(field))
+    has_value = any(name == "includesubdomains" and value is not None for name, value in parts(field))
+    return fits(field) and has_value and whole(field)
 
 
 def unknown_part(field):
@@ -125,7 +142,7 @@ def preload_alone(field):
 
 def preload_short(field):
     age = seconds(field)
-    return has(field, "preload") and age is not None and 0 < age < YEAR
+    return has(field, "preload") and age is not None and 0 < age < YEAR and whole(field, YEAR)
 
 
 def zero_with_more(field):
@@ -134,7 +151,7 @@ def zero_with_more(field):
 
 def no_field(field):
     others = (in_quotes, with_comma, with_colon, quoted_age, blank_between)
-    return not fits(field) and not any(other(field) for other in others)
+    return not fits(field) and not any(other(field) for other in others) and whole(field)
 
 
 def misspelt(field):
@@ -143,7 +160,11 @@ def misspelt(field):
 
 
 def on_page(field):
-    return field.name == HEADER.lower()
+    """The host as a scenario names one that is known."""
+    host = field.headers.host
+    if field.name != HEADER.lower() or is_address(host) or seconds(field) == 0:
+        return None
+    return json.dumps({"host": host, "subdomains": has(field, "includesubdomains"), "until": LATE})
 
 
 IGNORED = "the header is ignored: "
@@ -151,41 +172,42 @@ OfAnswer = functools.partial(Lint, among=(ANSWER,))
 TABLE = [
     OfAnswer("hsts/value-in-quotes", HEADER, in_quotes, IGNORED + "its whole value is in quotes", "write `{meant}`"),
     OfAnswer("hsts/comma", HEADER, with_comma, IGNORED + "a comma stands in it",
-             "write a semicolon between directives, and digits alone"),
-    OfAnswer("hsts/colon", HEADER, with_colon, IGNORED + "a colon stands behind max-age", "write `max-age=31536000`"),
-    OfAnswer("hsts/max-age-missing", HEADER, no_age, IGNORED + "it has no max-age", "write `max-age=31536000`"),
+             "write semicolons between directives and digits alone, as `{meant}`"),
+    OfAnswer("hsts/colon", HEADER, with_colon, IGNORED + "a colon stands behind max-age", "write `{meant}`"),
+    OfAnswer("hsts/max-age-missing", HEADER, no_age, IGNORED + "it has no max-age", "write `{meant}`"),
     OfAnswer("hsts/max-age-quotes", HEADER, quoted_age, IGNORED + "the quotes of max-age are none that fit",
-             "write `max-age={meant}`"),
+             "write `{meant}`"),
     OfAnswer("hsts/max-age-negative", HEADER, negative_age, IGNORED + "its max-age is negative",
              "write `max-age=0`, by which the host is forgotten"),
-    OfAnswer("hsts/semicolon-missing", HEADER, blank_between, IGNORED + "no semicolon stands before `{meant}`",
-             "put one there"),
-    OfAnswer("hsts/max-age-no-number", HEADER, no_number, IGNORED + "`{meant}` is no number of seconds",
-             "write digits alone, such as `31536000`"),
+    OfAnswer("hsts/semicolon-missing", HEADER, blank_between, IGNORED + "no semicolon stands before `{meant.text}`",
+             "write `{meant.whole}`"),
+    OfAnswer("hsts/max-age-no-number", HEADER, no_number, IGNORED + "`{meant.text}` is no number of seconds",
+             "write digits alone, as `{meant.whole}`"),
     OfAnswer("hsts/directive-twice", HEADER, twice, IGNORED + "`{meant}` stands twice in it", "write it once"),
     OfAnswer("hsts/subdomains-value", HEADER, subdomains_value, IGNORED + "includeSubDomains has a value",
-             "write `includeSubDomains` alone"),
+             "write `{meant}`"),
     OfAnswer("hsts/unknown-directive", HEADER, unknown_part, "a directive is skipped, which is nearly `{meant}`",
              "write `{meant}`"),
     OfAnswer("hsts/no-field", HEADER, no_field, IGNORED + "`{it.value}` does not fit its grammar",
-             "write `max-age=31536000; includeSubDomains`, or max-age alone"),
+             "write `{meant}`"),
     OfAnswer("hsts/sent-twice", HEADER, sent_twice, "the header stands twice, and the first one alone counts",
              "send one"),
     OfAnswer("hsts/over-http", HEADER, over_http, "the header is ignored over http",
              "send it with answers over https, where http redirects to"),
     OfAnswer("hsts/on-an-address", HEADER, of_address,
-             "the header is ignored of {meant}, which is an IP address", "ask by a domain; or leave it out"),
+             IGNORED + "{meant} is an IP address, and none is ever a known host", "ask by a domain; or leave it out"),
     OfAnswer("hsts/preload-without-subdomains", HEADER, preload_alone,
              "the list of preloaded hosts takes none without includeSubDomains",
              "write `includeSubDomains` before `preload`; or take `preload` out"),
     OfAnswer("hsts/preload-short", HEADER, preload_short,
              "the list of preloaded hosts takes none with a max-age under a year",
-             "write `max-age=31536000` or more; or take `preload` out"),
+             "write `{meant}`, or a longer time; or take `preload` out"),
     OfAnswer("hsts/zero-with-more", HEADER, zero_with_more,
              "with max-age=0 a browser forgets the host, and nothing else in the header counts",
              "write `max-age=0` alone; or a longer time"),
     OfAnswer("hsts/header-misspelt", "a header's name", misspelt, "`{it.header}` is no header that a browser reads",
              "write `Strict-Transport-Security`"),
     Lint("hsts/on-the-page", "a header's name", on_page, "a play does not read `{it.header}` of a page",
-         "name its host in the scenario's `hsts`", (DOCUMENT,), is_note=True),
+         "name its host in the scenario's `hsts`, which holds for all documents from the beginning: `{meant}`",
+         (DOCUMENT,), is_note=True),
 ]

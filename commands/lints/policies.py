@@ -22,6 +22,7 @@ class Policy:
 
     def __init__(self, field, number, text):
         self.headers = field.headers
+        self.own_text = text.strip()
         self.where, self.at, self.header = field.where, field.at, field.header
         self.number = number
         self.is_report_only = field.name == REPORT_ONLY
@@ -102,6 +103,11 @@ class Directive:
         return any(word.is_proof for word in self.words)
 
 
+def is_swallowed(text, name):
+    """Whether a word of the directive of this name is another directive's, whose semicolon is missing."""
+    return "-" in text and text.lower() in grammar.DIRECTIVES and name not in ("report-to", "trusted-types")
+
+
 class Word:
     """A word of a directive; `inner` is what its quotes hold, or None."""
 
@@ -117,8 +123,7 @@ class Word:
         self.inner = text[1:-1] if re.fullmatch("'[^']*'", text) else None
         self.kinds = ("a word", "a source") if directive.has_sources else ("a word",)
         self.host = grammar.HOST.fullmatch(text)
-        self.is_directive = ("-" in text and self.lower in grammar.DIRECTIVES
-                             and directive.name not in ("report-to", "trusted-types"))
+        self.is_directive = is_swallowed(text, directive.name)
 
     @property
     def is_proof(self):

@@ -1,0 +1,127 @@
+"""Which hosts are known (HSTS) to a document, as far as the scenario and its own answers tell it, and why an http URL
+does not become one of https."""
+import time
+from collections import ChainMap, namedtuple
+
+from commands.play_text import is_preflight
+from commands.urls import host_of, is_address, is_trustworthy, scheme_of
+
+FIELD = "Strict-Transport-Security"
+LOOKED_AT_FIRST = {2: "bad ports are", 3: "mixed content is", 4: "policies are"}
+LONGEST = 80  # characters of a field
+# `until` is the first second in which a host is not known any more; of one that was forgotten it is 0.
+Known = namedtuple("Known", "subdomains until")
+
+
+def named(scenario):
+    """The hosts that a scenario names."""
+    hosts = scenario.data.get("hsts", [])
+    return {one["host"]: Known(one["subdomains"], one["until"]) for one in hosts if one["until"]}
+
+
+def sites(hosts):
+    """One of the hosts of each site, as far as the last two labels tell sites."""
+    return {site_of(host): host for host in hosts}
+
+
+def site_of(host):
+    return ".".join(host.split(".")[-2:])
+
+
+def names_above(host):
+    """The names that a host is below."""
+    labels = host.split(".")
+    return [".".join(labels[number:]) for number in range(1, len(labels))]
+
+
+def clock(case):
+    """The time of a fetch, in seconds. What bin/ask is told to know it knows from 0 on."""
+    start = 0 if case.is_direct else int(time.time()) if case.is_net else case.scenario.data.get("now", 0)
+    return start + case.command.waited
+
+
+class Book:
+    """What a document has learnt by the fetch that is looked at: of each host when it is known, and which fields were
+    ignored."""
+
+    def __init__(self, hosts, by_site):
+        self.hosts = ChainMap({}, hosts)
+        self.by_site = ChainMap({}, by_site)
+        self.ignored = {}
+
+    def reasons(self, case):
+        """For each URL of a chain why it stays http, though a host was meant to be known; or an empty text."""
+        found = []
+        for event in case.fetch.events:
+            is_sent = event.kind == "send" and not is_preflight(event)
+            if is_sent or event.kind == "result":
+                found += [self.reason(case, hop) for hop in case.hops[len(found):len(found) + 1]]
+            if event.kind == "call" and event.op == "note":
+                self.note(*event.words)
+        self.look_at_fields(case)
+        return found
+
+    def note(self, host, age, subdomains, _, at):
+        if int(age):
+            self.hosts[host] = Known(subdomains == "sub", int(at) + int(age))
+            self.by_site[site_of(host)] = host
+        elif host in self.hosts:
+            self.hosts[host] = self.hosts[host]._replace(until=0)
+        self.ignored.pop(host, None)
+
+    def look_at_fields(self, case):
+        noted = {event.words[0] for event in case.fetch.of("call") if event.op == "note"}
+        for request, answer in case.exchanges:
+            value = answer.head.get(FIELD) if answer and answer.head else None
+            if value is not None and host_of(request.origin) not in noted:
+                self.ignored[host_of(request.origin)] = (scheme_of(request.origin), value)
+
+    def reason(self, case, hop):
+        host = host_of(hop.asked)
+        if scheme_of(hop.asked) != "http" or case.upgrade_of(hop) or is_trustworthy(hop.asked) or is_address(host):
+            return ""
+        now = clock(case)
+        names = [host, *names_above(host)]
+        is_known = any(self.covers(name, host) and self.hosts[name].until > now for name in names)
+        if is_known or hop.origin is None:  # what was refused before the list is asked
+            return self.of_order(case, hop) if is_known else ""
+        return (self.of_parent(names, now) or self.of_term(names, now) or self.of_field(names)
+                or self.of_neighbour(host, now))
+
+    def covers(self, name, host):
+        return name in self.hosts and (name == host or self.hosts[name].subdomains)
+
+    @staticmethod
+    def of_order(case, hop):
+        """The host is known, and the URL was refused before that was looked up."""
+        first = LOOKED_AT_FIRST.get(case.result.number) if hop.origin is None and not case.result.is_fault else None
+        return "its host is a known one (HSTS), but %s looked at first" % first if first else ""
+
+    def of_parent(self, names, now):
+        parent = next((name for name in names[1:] if name in self.hosts and self.hosts[name].until > now), None)
+        return ("%s is a known host (HSTS), but without includeSubDomains, which would cover %s" % (parent, names[0])
+                if parent else "")
+
+    def of_term(self, names, now):
+        ended = next((name for name in names if self.covers(name, names[0]) and self.hosts[name].until <= now), None)
+        if ended is None:
+            return ""
+        until = self.hosts[ended].until
+        how = "until second %d, and it is second %d" % (until, now) if until else "until an answer said max-age=0"
+        return "%s was a known host (HSTS) %s" % (ended, how)
+
+    def of_neighbour(self, host, now):
+        other = self.by_site.get(site_of(host))
+        if other is None or self.hosts[other].until <= now:
+            return ""
+        return "%s is a known host (HSTS), and %s is neither that nor below it" % (other, host)
+
+    def of_field(self, names):
+        name = next((name for name in names if name in self.ignored), None)
+        if name is None:
+            return ""
+        scheme, value = self.ignored[name]
+        if scheme == "http":
+            return "the %s of %s came over http, where it is ignored" % (FIELD, name)
+        value = value if len(value) <= LONGEST else value[:LONGEST] + ".."
+        return "the %s of %s is ignored: `%s`" % (FIELD, name, value)

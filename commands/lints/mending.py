@@ -1,0 +1,326 @@
+"""Policies as they are surely meant: each slip that a lint tells of, and whose right text is known, is mended. What is
+advised is built on these texts, so that a warning and a change never contradict each other."""
+from __future__ import annotations
+
+import base64
+import re
+from collections import namedtuple
+
+from commands import csp
+from commands.lints import grammar, lints_of
+from commands.lints.csp import comma, is_web_host, misspelt_header, obsolete_header, widened
+from commands.lints.entry import DOCUMENT, nearest
+from commands.lints.policies import PASTED, Policy, is_swallowed
+from commands.lints.reading import Field, Headers, topics_of
+
+LONGEST = 8192  # characters: a header that is longer stays as it is
+MOST_ROUNDS = 12
+STRAIGHT = str.maketrans("\u2018\u2019\u201a\u201b\u201c\u201d", "''''''")
+
+# A policy as it is meant: its text, how many slips were mended, whether no fault is left, and how many of those behind
+# it belong to it.
+Mended = namedtuple("Mended", "text slips is_right joined")
+# The only policy of a header whose name is misspelt: the header's number, its right name, and the policy.
+Unread = namedtuple("Unread", "at name mended")
+
+
+# ---- single words: the words that stand in the place of one; None where what is meant is not known
+
+def as_meant(word, meant):
+    return [meant]
+
+
+def as_written(word, meant):
+    """As a sentence of a lint says it."""
+    found = re.fullmatch("write `(.*)`", meant)
+    return [found.group(1)] if found else [] if meant == "take it out" else None
+
+
+def out(word, meant):
+    return []
+
+
+def with_slash(word, meant):
+    return [word.text + "/"]
+
+
+def in_base64(word, meant):
+    algorithm, digits = grammar.HASH.fullmatch(word.inner).groups()
+    return ["'%s-%s'" % (algorithm, base64.b64encode(bytes.fromhex(digits)).decode("ascii"))]
+
+
+def with_wildcard_in_front(word, meant):
+    """`*.` and the domain behind the label that has the star, where that is no top level."""
+    found = re.fullmatch(r"(.*://)?[^/:]*\*[^./:]*\.([^/:*]+\.[^/:*]+)([:/].*)?", word.text)
+    return found and ["%s*.%s%s" % (found.group(1) or "", found.group(2), found.group(3) or "")]
+
+
+def of_webrtc(word, meant):
+    inner = word.text.strip("'\"`").lower()
+    return ["'%s'" % inner] if inner in ("allow", "block") else None
+
+
+def of_scripts(word, meant):
+    """Of default-src the directive is mended."""
+    return None if word.directive.name == "default-src" else []
+
+
+WORDS = {
+    **dict.fromkeys(["csp/" + name for name in (
+        "keyword-unquoted", "nonce-unquoted", "hash-unquoted", "other-quotes", "quoted-with-more", "host-quoted",
+        "scheme-without-colon", "http-on-https", "query-or-fragment", "wildcard-scheme", "wildcard-path",
+        "scheme-alone", "star-behind-scheme", "one-slash", "localhost-without-scheme", "ancestor-path",
+        "report-over-http")], as_meant),
+    **dict.fromkeys(["csp/" + name for name in ("quote-missing", "unknown-keyword", "sandbox-word", "trusted-word")],
+                    as_written),
+    **dict.fromkeys(["csp/" + name for name in (
+        "unsafe-allow-redirects", "nonce-elsewhere", "unsafe-elsewhere", "strict-dynamic-elsewhere", "source-twice",
+        "source-as-endpoint")],
+                    out),
+    "csp/trusted-sink": lambda word, meant: ["'script'"], "csp/webrtc-word": of_webrtc, "csp/hash-hex": in_base64,
+    "csp/folder-without-slash": with_slash, "csp/wildcard-inside": with_wildcard_in_front,
+    "csp/data-in-scripts": of_scripts,
+}
+
+
+# ---- directives: those that stand in the place of one, each as its name and its words
+
+def renamed(directive, meant):
+    return [[meant, *directive.rest]]
+
+
+def as_named(directive, meant):
+    found = as_written(directive, meant)
+    return [[*found, *directive.rest]] if found else []
+
+
+def taken_out(directive, meant):
+    return []
+
+
+def alone(directive, meant):
+    return [[directive.written]]
+
+
+def in_ascii(directive, meant):
+    text = directive.text.translate(STRAIGHT)
+    return [text.split()] if text.isascii() else None
+
+
+def with_none(directive, meant):
+    return [[directive.written, "'none'"]] if directive.has_sources else []
+
+
+def without(*words):
+    """The directive without these words."""
+    return lambda directive, meant: [[directive.written, *(one for one in directive.rest if one.lower() not in words)]]
+
+
+def star_alone(directive, meant):
+    """Without the sources that `*` has already."""
+    kept = [word.text for word in directive.words
+            if word.lower not in ("'self'", "http:", "https:") and not is_web_host(word)]
+    return [[directive.written, *kept]]
+
+
+def first_word(directive, meant):
+    """One word, and behind it the directive whose semicolon is missing."""
+    index = next((index for index, word in enumerate(directive.rest) if word.lower() in grammar.DIRECTIVES), None)
+    return [directive.text.split()[:2]] + ([directive.rest[index:]] if index else [])
+
+
+def to_urls(directive, meant):
+    urls = [word for word in directive.rest if "/" in word]
+    names = [word for word in directive.rest if "/" not in word]
+    return [["report-uri", *urls]] + ([["report-to", *names]] if names else [])
+
+
+def to_group(directive, meant):
+    urls = [word for word in directive.rest if word != meant]
+    return [["report-to", meant]] + ([["report-uri", *urls]] if urls else [])
+
+
+def no_plugins(directive, meant):
+    return [] if "object-src" in directive.policy.effective else [["object-src", "'none'"]]
+
+
+DIRECTIVES = {
+    "csp/directive-with-sign": renamed, "csp/not-ascii": in_ascii, "csp/unknown-directive": as_named,
+    "csp/no-words": with_none, "csp/needless-words": alone, "csp/none-beside-others": without("'none'"),
+    "csp/star-beside-others": star_alone, "csp/unsafe-inline-ignored": without("'unsafe-inline'"),
+    "csp/unsafe-hashes-alone": without("'unsafe-hashes'"), "csp/report-only-ignores": taken_out,
+    "csp/one-word-alone": first_word, "csp/url-in-report-to": to_urls, "csp/name-in-report-uri": to_group,
+    **{"csp/obsolete-" + name: taken_out for name in grammar.OBSOLETE}, "csp/obsolete-plugin-types": no_plugins,
+}
+
+
+# ---- policies
+
+def of_document(headers, url, asks, budget):
+    """All policies of a document's headers, numbered as csp.texts does. `asks` are what its scripts ask for. Those that
+    are too long for the budget stay as they are."""
+    known = Headers(DOCUMENT, headers, url, asks)
+    found = []
+    for at, (name, value) in enumerate(headers):
+        if name.lower() in csp.HEADERS:
+            is_short = len(value) <= LONGEST and budget.takes(name, value)
+            found += of_header(Field(known, at, name, value)) if is_short else as_they_are(value)
+    return found
+
+
+def as_they_are(value):
+    """The policies of a header, unmended."""
+    return [Mended(text.strip(), 0, False, 0) for text in value.split(",") if csp.directives(text)]
+
+
+def unread(headers, url, asks, budget):
+    """The policies that no browser reads yet."""
+    known = Headers(DOCUMENT, headers, url, asks)
+    for at, (header, value) in enumerate(headers):
+        name = right_name(Field(known, at, header, value)) if "csp" in topics_of(header.lower()) else None
+        if name and len(value) <= LONGEST and budget.takes(name, value):
+            texts = [policy.own_text for policy in Field(known, at, name, value).policies]
+            own = mended(known, at, name, 0, texts[0]) if len(texts) == 1 else None
+            if own and csp.directives(own.text):
+                yield Unread(at, name, own._replace(slips=own.slips + (name != header)))
+
+
+def right_name(field):
+    """That of a header that no browser reads a policy of; its own where no directive is read, as none is in ASCII."""
+    is_idle = field.is_policy and field.value != "" and not any(map(csp.directives, field.value.split(",")))
+    return field.header if is_idle else misspelt_header(field) or obsolete_header(field)
+
+
+def of_header(field):
+    """Its policies. One behind a comma that is none belongs to the one before, and has no text then."""
+    groups, is_split = [], widened(field) is not None
+    for number, policy in enumerate(field.policies):
+        if csp.directives(policy.own_text):
+            if groups and (is_split or comma(policy)):
+                text = groups[-1][1].rstrip(" ;") + joint(policy, is_split) + policy.own_text
+                groups[-1] = groups[-1][0], text, groups[-1][2] + 1
+            else:
+                groups.append((number, policy.own_text, 0))
+    for number, text, joined in groups:
+        own = mended(field.headers, field.at, field.header, number, text)
+        yield own._replace(slips=own.slips + joined, joined=joined)
+        yield from [Mended("", joined, True, 0)] * joined
+
+
+def joint(policy, is_split):
+    """What is meant by the comma before a policy."""
+    names = grammar.SOURCES + grammar.OTHERS
+    return "; " if is_split or nearest(policy.directives[0].name, names) else " "
+
+
+def mended(headers, at, name, number, text):
+    """One of them, by rounds: what is mended may show another slip."""
+    text, slips = text.strip(), 0
+    for _ in range(MOST_ROUNDS):
+        policy = Policy(Field(headers, at, name, text), number, text)
+        count, parts = mended_once(policy, text)
+        if count == 0:
+            return Mended(text, slips, not has_fault(policy), 0)
+        text, slips = parts, slips + count
+    return Mended(text, slips, False, 0)
+
+
+def has_fault(policy):
+    things = [policy, *policy.things()]
+    return any(lint.sentence(it) for it in things for lint in looking(it) if not lint.is_note)
+
+
+def mended_once(policy, text):
+    """The number of slips that can be mended at once, and the text then."""
+    if policy.is_pasted:
+        alone = unpasted(text)
+        return int(alone != text), alone
+    parts, slips = [], 0
+    for directive in policy.directives:
+        count, own = of_directive(directive, parts)
+        parts += own
+        slips += count
+    return (slips, "; ".join(map(" ".join, parts))) if parts else (0, text)
+
+
+def unpasted(text):
+    """The policy without its header's name, its quotes or the element around it."""
+    content = re.match(r"<meta\b.*?\bcontent\s*=\s*([\"'])(.*)\1", text, re.I)
+    if content:
+        return content.group(2)
+    if text[0] in "\"'`\u201c\u2018":
+        return re.sub("[%s\u201d\u2019]$" % re.escape(text[0]), "", text[1:]).strip()
+    return PASTED.sub("", text).strip()
+
+
+def is_joined(directive):
+    """Whether it is a source behind a semicolon that stands too much."""
+    return any(lint.name == "csp/source-as-directive" and lint.sentence(directive) for lint in looking(directive))
+
+
+def of_directive(directive, before):
+    """How many slips were mended, and the directives that stand in its place; or `before`, those in front of it, have
+    its words."""
+    whole = [directive.written, *directive.rest]
+    first = next((part for part in before if part[0].lower() == directive.name), None)
+    if directive.is_again and first is not None:
+        first += directive.rest
+        return 1, []
+    if before and is_joined(directive):
+        before[-1] += whole
+        return 1, []
+    parts = split(whole) if directive.is_known else []
+    if len(parts) > 1:
+        return len(parts) - 1, parts
+    own = first_mend(directive, DIRECTIVES)
+    if own is not None:
+        return 1, own
+    is_looked_into = directive.is_known and directive.text.isascii() and not directive.is_again
+    return of_words(directive) if is_looked_into else (0, [whole])
+
+
+def split(words):
+    """The directives of a text that lacks semicolons, where each begins with its name."""
+    parts = []
+    for word in words:
+        if not parts or is_swallowed(word, parts[-1][0].lower()):
+            parts.append([])
+        parts[-1].append(word)
+    return parts
+
+
+def of_words(directive):
+    """The same of its words."""
+    mends = [first_mend(word, WORDS) for word in directive.words]
+    count = sum(mend is not None for mend in mends)
+    if count == 0 and has_data(directive):
+        return 1, without_data(directive)
+    words = [one for word, mend in zip(directive.words, mends) for one in ([word.text] if mend is None else mend)]
+    return count, [[directive.written, *words]]
+
+
+def has_data(directive):
+    return any(lint.name == "csp/data-in-scripts" and lint.sentence(word)
+               for word in directive.words for lint in looking(word))
+
+
+def without_data(directive):
+    """A default-src, and a script-src beside it that lets no `data:` pass."""
+    others = [word for word in directive.rest if word.lower() != "data:"] or ["'none'"]
+    return [[directive.written, *directive.rest], ["script-src", *others]]
+
+
+def looking(it):
+    """The lints that look at a thing; the last ones at the end."""
+    return sorted(lints_of(it.topics, it.kinds, it.where), key=lambda lint: lint.is_last)
+
+
+def first_mend(it, mends):
+    """What the first lint of a thing that can be mended makes of it; None where there is none."""
+    for lint in looking(it):
+        meant = lint.find(it) if lint.name in mends else None
+        if meant is not None and meant is not False:
+            found = mends[lint.name](it, meant)
+            if found is not None:
+                return found
+    return None

@@ -1,0 +1,121 @@
+"""Policies with all changes that are named for them: where several loads violate one, each with a change of its own,
+one text lets all of them pass. It is built on the text in which the slips that are warned of are mended, and every load
+of the page is asked of that again: what is mended may refuse what passed before."""
+from __future__ import annotations
+
+from collections import namedtuple
+
+from commands import csp, edits
+from commands.explanations import policy_explanation
+
+
+# The header of a policy that is not read yet: its number, its name and its right name.
+Header = namedtuple("Header", "at name right")
+
+
+class Whole(namedtuple("Whole", "policy enforced text value changes mended besides header", defaults=[None])):
+    """A policy of a document by its number, with its text and what that should be; so many different changes were
+    named. `besides` are the edits that other things than policies need, with the names of their fetches and loads.
+    `header` is that of a policy that is not read yet."""
+
+    @property
+    def is_told(self) -> bool:
+        """Whether it says more than the one change of a load, or than a lint."""
+        return self.value != "" and self.changes + self.mended.slips > 1
+
+    @property
+    def is_same(self) -> bool:
+        """Whether the policy itself stays as it is."""
+        return self.value == self.text and self.header is None
+
+    def line(self) -> str:
+        by_phrase: dict[str, list[str]] = {}
+        for name, own in self.besides:
+            by_phrase.setdefault(edits.phrase(own), []).append(name)
+        said = [f"for {edits.listed(names)} {phrase}" for phrase, names in by_phrase.items()]
+        return "in all: " + "; and ".join(([] if self.is_same else [self.sentence()]) + said)
+
+    def sentence(self) -> str:
+        if self.header:
+            unread = "" if self.header.right != self.header.name else ", of which nothing is read yet"
+            return f"send `{self.header.right}: {self.value}` in the place of `{self.header.name}`{unread}"
+        last = self.policy + self.mended.joined
+        name = f"policies {self.policy} to {last}, joined," if self.mended.joined else f"policy {self.policy}"
+        told = f"let {name}{'' if self.enforced else ' (report-only)'} be `{self.value}`"
+        if not self.mended.slips:
+            return told
+        how = "" if self.mended.is_right else ", as far as it is known how"
+        return f"{told}, where what is warned of is mended{how}"
+
+    def data(self) -> dict:
+        besides = [{"name": name, "edits": own} for name, own in self.besides]
+        return {"policy": self.policy, "enforced": self.enforced, "value": self.value, "mended": self.mended.slips,
+                "besides": besides}
+
+
+def whole(scenario, number: int, cases: list, is_wanted=lambda case, policy: True) -> list[Whole]:
+    """Each policy of a document for which there is a change, in order. `is_wanted(case, policy)` says whether a case is
+    to pass the policy of this number."""
+    headers = scenario.documents()[number].get("headers", [])
+    texts, mended = csp.texts(headers), scenario.mended_policies(number)
+    unread = scenario.unread_policies(number)
+    policies = [(enforced, csp.directives(one.text)) for (enforced, _), one in zip(texts, mended)]
+    policies += [(csp.HEADERS[one.name.lower()], csp.directives(one.mended.text)) for one in unread]
+    found: dict[int, Gathered] = {}
+    for case in cases:
+        under = case.under(policies)
+        for violation in under.violations:
+            if violation.policy >= len(texts) or is_wanted(case, violation.policy):
+                own = policy_explanation(under.of_violation(violation)).edits
+                found.setdefault(violation.policy, Gathered()).add(case, own)
+    wholes = [found.get(index, Gathered()).whole(index, enforced, text.strip(), mended[index])
+              for index, (enforced, text) in enumerate(texts) if index in found or mended[index].slips]
+    for index, one in enumerate(unread, len(texts)):
+        name, value = headers[one.at]
+        own = found.get(index, Gathered()).whole(None, policies[index][0], value.strip(), one.mended)
+        wholes.append(own._replace(header=Header(one.at, name, one.name)))
+    return wholes
+
+
+class Gathered:
+    """The changes of one policy: values by directives, and what else is to be changed."""
+
+    def __init__(self) -> None:
+        self.by_name: dict[str, dict[str, None]] = {}
+        self.besides: list[tuple[str, list[dict]]] = []
+
+    def add(self, case, own: list[dict]) -> None:
+        for edit in own:
+            if "policy" in edit:
+                self.by_name.setdefault(edit["set"], {})[edit["value"]] = None
+        others = [edit for edit in own if "policy" not in edit]
+        if others:
+            self.besides.append((case.fetch.name, others))
+
+    def whole(self, number: int | None, enforced: bool, text: str, mended) -> Whole:
+        """The policy with directives by their names, each of which has one or several values that are advised."""
+        own, value = csp.directives(mended.text), mended.text
+        for name, values in self.by_name.items():
+            value = csp.with_directive(value, name, merged(own.get(name, own.get("default-src", [])), list(values)))
+        changes = sum(map(len, self.by_name.values())) + len(self.besides)
+        return Whole(number, enforced, text, value, changes, mended, self.besides)
+
+
+def merged(there: list[str], values: list[str]) -> str:
+    """The words of all values, each once, without those that one of them has taken away or that another word covers."""
+    if len(values) == 1:
+        return values[0]
+    known, gone, added = set(there), set(), {}
+    for value in values:
+        words = value.split()
+        gone |= known.difference(words)
+        added.update((word, None) for word in words if word not in known)
+    left = [word for word in there if word not in gone]
+    standing = {*left, *added}
+    return " ".join(left + [word for word in added if without_path(word) not in standing])
+
+
+def without_path(word: str) -> str | None:
+    """The word that also matches what lies beside its path; None where it has none."""
+    parts = csp.HOST.fullmatch(word)
+    return word[:-len(parts.group(4))] if parts and parts.group(4) else None
