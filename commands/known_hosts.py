@@ -40,6 +40,14 @@ def clock(case):
     return start + case.command.waited
 
 
+def tell(scenario, cases):
+    """Says of each case of a play, in their order, why its URLs stay http."""
+    hosts, books = named(scenario), {}
+    by_site = sites(hosts)
+    for case in cases:
+        case.plain_reasons = books.setdefault(case.fetch.document.number, Book(hosts, by_site)).reasons(case)
+
+
 class Book:
     """What a document has learnt by the fetch that is looked at: of each host when it is known, and which fields were
     ignored."""

@@ -2,10 +2,9 @@
 with `<` or `#`, so the play is what is left without them."""
 import functools
 
-from commands import answers
+from commands import answers, known_hosts
 from commands.case import Case
 from commands.explanations import explain, explain_policies
-from commands.known_hosts import Book, named, sites
 from commands.notes import notes
 
 LONGEST = 200  # bytes of a line
@@ -18,18 +17,14 @@ class Told:
         scenario.attach(play)
         self.scenario = scenario
         self.play = play
-        self.cases = []
-        hosts, books = named(scenario), {}
-        by_site = sites(hosts)
-        for fetch in play.fetches():
-            exchanges = [(request, answer_of(request)) for request in fetch.of("send")]
-            case = Case(scenario, fetch, exchanges, is_net)
-            case.plain_reasons = books.setdefault(fetch.document.number, Book(hosts, by_site)).reasons(case)
+        self.cases = [Case(scenario, fetch, [(request, answer_of(request)) for request in fetch.of("send")], is_net)
+                      for fetch in play.fetches()]
+        known_hosts.tell(scenario, self.cases)
+        for case in self.cases:
             case.explanation = explain(case)
             case.policies_told = explain_policies(case)
             case.notes = notes(case)
             case.result.verdict = case.verdict
-            self.cases.append(case)
 
     def pieces(self):
         """The lines in order: those of the play, and lists of our own."""

@@ -8,7 +8,7 @@ from dataclasses import dataclass, field
 from functools import cached_property
 from typing import Any, Optional
 
-from commands import answers, play_text, running
+from commands import answers, known_hosts, play_text, running
 from commands.case import Case
 from commands.explanations import Explanation, PolicyExplanation, explain, explain_policies
 from commands.notes import notes
@@ -104,7 +104,10 @@ def cases_of(data: dict[str, Any]) -> list[Case]:
         raise running.Refused("/")
     scenario, play = Scenario(None, data), play_text.read(running.played(text))
     scenario.attach(play)
-    return [PlayedCase(scenario, fetch, exchanges_of(scenario, fetch)) for fetch in play.fetches()]
+    cases = [PlayedCase(scenario, fetch, exchanges_of(scenario, fetch)) for fetch in play.fetches()]
+    if b'"http:' in text:  # else nothing stays http
+        known_hosts.tell(scenario, cases)
+    return cases
 
 
 def exchanges_of(scenario: Scenario, fetch: Any) -> list[tuple[Any, Any]]:

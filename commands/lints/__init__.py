@@ -63,7 +63,9 @@ class Place:
         self.url = url
 
     def of(self, finding, root):
-        """The place of the text, whose tree is `root`."""
+        """The place of the text, whose tree is `root`; None of a scenario without a text."""
+        if root is None:
+            return None
         node = root.at(self.path)
         if node.kind == "string":
             return node.start
