@@ -5,9 +5,11 @@ import json
 import re
 
 from commands import asking, csp, findings
+from commands.case import LOCAL, SOCKETS
 from commands.explanations import explain, explain_policies, lines_of
 from commands.refusals import nearest
 from commands.scenario import joined, origin_of
+from commands.urls import scheme_of
 
 KEYS = ("allowed", "blocked", "reported", "violating", "not violating")
 KEPT_OUT = ("blocked", "reported", "violating")
@@ -46,9 +48,11 @@ def problem(text):
         return 'nothing is loaded as "%s": write %s' % (kind, '"%s"' % meant if meant else "one of " + ", ".join(KINDS))
     if re.search(r"\s", url):
         return "a URL has no blanks: write %20 for one, and each URL in a text of its own"
-    scheme = re.match(r"([A-Za-z][A-Za-z0-9+.-]*):", url)
-    if scheme and scheme.group(1).lower() not in ("http", "https"):
-        return 'no policy is asked here about "%s:": this engine loads http and https alone' % scheme.group(1)
+    scheme = scheme_of(url) if re.match(r"[A-Za-z][A-Za-z0-9+.-]*:", url) else ""
+    if scheme in SOCKETS and kind != "fetch":
+        return 'a WebSocket is asked for by a script: write "fetch %s"' % url
+    if scheme not in ("", "http", "https", *LOCAL, *SOCKETS):
+        return 'no policy is asked here about "%s:", but about http, https, data, blob, ws and wss' % scheme
     if "${" in url:
         return "no template stands in this URL: write %24{ for ${"
     return None
@@ -148,15 +152,17 @@ def difference(question, case):
         yield "%s: %s was not asked: the play of its document has too many lines" % (question.key, question.text)
         return
     violations = findings.told_violations(case)
-    is_reported = any(not one.enforced for one in case.fetch.of("violation"))
+    dispositions = [one["disposition"] for one in findings.violations(case)]
+    is_reported = "report" in dispositions
     is_blocked = not case.result.is_fault and case.result.number in POLICY_ERRORS
+    is_blocked = is_blocked or case.is_unloaded and "enforce" in dispositions
     yield from DIFFERENCES[question.key](question.text, case, violations, is_blocked, is_reported)
 
 
 def not_allowed(text, case, violations, is_blocked, is_reported):
-    if is_blocked or not case.exchanges:  # by another rule, where nothing is sent
+    if is_blocked or not (case.exchanges or case.is_open):  # by another rule, where nothing is sent
         yield "allowed: expected that %s is let through; it came to %s" % (text, case.result.short())
-        yield from ("  " + line for line in lines_of(case))
+        yield from advised(case, False)
 
 
 def not_blocked(text, case, violations, is_blocked, is_reported):
@@ -182,7 +188,13 @@ def not_violating(text, case, violations, is_blocked, is_reported):
 def violating(text, case, violations, is_blocked, is_reported):
     if violations:
         yield "not violating: expected that %s violates no policy; there is %s" % (text, "; ".join(violations))
-        yield from ("  " + line for line in lines_of(case, True))
+        yield from advised(case, True)
+
+
+def advised(case, with_reports):
+    """Why it is refused, and what to change; of a URL that this engine does not load what its policies say of it."""
+    with_all = not (case.is_unloaded and case.violations)
+    yield from ("  " + line for line in lines_of(case, with_reports, with_all))
 
 
 def let_through(case):
