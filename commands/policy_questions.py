@@ -13,6 +13,7 @@ from commands.urls import scheme_of
 
 KEYS = ("allowed", "blocked", "reported", "violating", "not violating")
 KEPT_OUT = ("blocked", "reported", "violating")
+LET_IN = ("allowed", "not violating")
 KINDS = ("fetch", "image", "audio", "video", "style", "script", "font", "manifest")
 ITEM = re.compile(r"(?:document ([0-9]{1,3}) )?(\S+) (\S.*)", re.S)
 EXAMPLE = '"script https://cdn.example/app.js"'
@@ -58,9 +59,10 @@ def problem(text):
     return None
 
 
-def differences(expect, scenario, kept_out, passing):
+def differences(expect, scenario, kept_out, passing, lacking):
     """Lines for each question that is answered otherwise than expected. What is to pass is added to `passing`: the
-    number of the document, the case, and whether enforced policies and those that only report are to let it pass."""
+    number of the document, the case, and whether enforced policies and those that only report are to let it pass. What
+    a policy lacks is added to `lacking`: the names of directives by the document's number and that of the policy."""
     questions = [Question(key, text) for key in KEYS for text in listed(expect.get(key, []))]
     count = len(scenario.documents())
     for question in questions:
@@ -69,10 +71,27 @@ def differences(expect, scenario, kept_out, passing):
                 question.key, question.text, count, "" if count == 1 else "s")
     known = [question for question in questions if question.document < count]
     for case, question in answered(scenario.data, known):
-        if case and question.key in ("allowed", "not violating"):
+        if case and question.key in LET_IN:
             keep_out(case, kept_out.get(question.document))
             passing.append((question.document, case, True, question.key == "not violating"))
-        yield from difference(question, case)
+        lines = list(difference(question, case))
+        yield from lines
+        lack = lacking_of(question.key, case) if lines and case and question.key in KEPT_OUT else None
+        if lack:
+            yield "  change: let policy %d say `%s 'none'`, or in the place of `'none'` what is to pass" % lack
+            lacking.setdefault(question.document, {}).setdefault(lack[0], []).append(lack[1])
+
+
+def lacking_of(key, case):
+    """The first policy that may refuse or report what a case asks for, and in which no directive decides on it: its
+    number, and the directive; None where there is none."""
+    effective = csp.EFFECTIVE[case.kind]
+    name = csp.written_for("default-src", effective)
+    dispositions = {"blocked": [True], "reported": [False]}.get(key, [True, False])
+    asked = {one.policy for one in case.questions()}
+    return next(((number, name) for number, (enforced, _) in enumerate(case.policies)
+                 if number in asked and enforced in dispositions
+                 and csp.deciding(case.mended[number], effective)[0] not in case.mended[number]), None)
 
 
 def kept_out(expect, documents):
@@ -83,6 +102,14 @@ def kept_out(expect, documents):
             page = documents[question.document]["url"]
             asked = csp.Asked(joined(question.url, page), page, question.kind, "", "", True, False)
             found.setdefault(question.document, []).append(asked)
+    return found
+
+
+def let_in(expect):
+    """By the number of a document kinds and URLs of what is to pass its policies."""
+    found = {}
+    for question in (Question(key, text) for key in LET_IN for text in listed(expect.get(key, []))):
+        found.setdefault(question.document, []).append((question.kind, question.url))
     return found
 
 
