@@ -609,12 +609,18 @@ class Case:
         if refusing:
             return "but the page's policies do not let it: " + "; ".join(
                 "%s has `%s`" % (case.policy, case.directive_text) for case in map(self.of_violation, refusing))
-        has_policies = any(enforced for enforced, _ in self.policies)
-        return "and the page's policies let it" if has_policies else "and the page has no policy"
+        reporting = ["%s reports it, since it has `%s`" % (case.policy, case.directive_text)
+                     for case in map(self.of_violation, self.violations)]
+        if reporting:
+            return "and no policy refuses it, but " + "; ".join(reporting)
+        return "and the page's policies let it" if self.policies else "and the page has no policy"
 
     @property
     def unloaded_change(self):
-        return "let each policy pass it, as follows" if self.violations else "nothing is to be changed"
+        if any(one.enforced for one in self.violations):
+            return "let each policy pass it, as follows"
+        until = "; before the policy is enforced, let it pass this URL" if self.violations else ""
+        return "nothing is to be changed" + until
 
     @property
     def is_open(self):

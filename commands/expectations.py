@@ -159,13 +159,14 @@ def outcome(path, data, is_net, patience, is_strict=False):
 def outcome_of(test, is_net, patience, is_strict):
     try:
         text, scenario, told = asking.played(test.scenario, is_net, patience)
-        passing = []
+        passing, lacking = [], {}
+        scenario.ask_besides(policy_questions.let_in(test.expect))
         kept_out = policy_questions.kept_out(test.expect, scenario.documents())
         for case in told.cases:
             policy_questions.keep_out(case, kept_out.get(case.fetch.document.number))
         lines = list(differences(test.expect, told, passing))
-        lines += policy_questions.differences(test.expect, scenario, kept_out, passing)
-        wholes = list(whole_lines(scenario, told, passing, is_met=not lines))
+        lines += policy_questions.differences(test.expect, scenario, kept_out, passing, lacking)
+        wholes = list(whole_lines(scenario, told, passing, lacking, is_met=not lines))
     except Wrong as wrong:
         return Outcome(test.name, wrong.refusal.told(test.scenario_name))
     except (running.Failed, play_text.NoPlay) as failure:
@@ -205,7 +206,7 @@ def unnamed(expect, told):
         yield f"warning: {len(left) - MOST_UNNAMED} more fetches and loads are not named: add them"
 
 
-def whole_lines(scenario, told, passing, is_met):
+def whole_lines(scenario, told, passing, lacking, is_met):
     """The policies that let all pass which is to pass, where one has several changes; of a test that is met those that
     are warned of."""
     wanted = {id(case): (enforced, reported) for _, case, enforced, reported in passing}
@@ -222,7 +223,7 @@ def whole_lines(scenario, told, passing, is_met):
             continue
         from commands.whole_policies import whole
         name = f"document {number}: " if len(scenario.documents()) > 1 else ""
-        for one in whole(scenario, number, own, is_wanted):
+        for one in whole(scenario, number, own, is_wanted, lacking.get(number, {})):
             if one.is_told and (one.mended.slips or not is_met):
                 yield name + one.line()
 

@@ -4,9 +4,10 @@ from commands.urls import secure
 
 
 def violations(case):
-    """All that were told, in order."""
+    """All that were told, in order; of a URL that a browser alone loads those that it would tell."""
+    found = case.violations if case.is_unloaded else case.fetch.of("violation")
     return [{"policy": one.policy, "disposition": "enforce" if one.enforced else "report", "directive": one.directive,
-             "url": one.url} for one in case.fetch.of("violation")]
+             "url": one.url} for one in found]
 
 
 def told_violations(case):

@@ -298,6 +298,8 @@ TOLD_ONCE = [
     (report_only("default-src 'self' report-uri /csp"), "csp/semicolon-missing"),
     (report_only("default-src 'self'; report-ur /csp"), "csp/unknown-directive"),
     (csp_of("conect-src 'none'"), "csp/unknown-directive"),
+    (csp_of("upgrade-insecure-request"), "csp/unknown-directive"),
+    (csp_of("sandbx allow-scripts"), "csp/unknown-directive"),
     (csp_of("img-src \u2018self\u2019"), "csp/not-ascii"),
     (asking("connect-src https://api.test/v1 https://api.test/v1/", API + "/v1/cart"), None),
 ]

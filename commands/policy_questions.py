@@ -5,12 +5,15 @@ import json
 import re
 
 from commands import asking, csp, findings
+from commands.case import LOCAL, SOCKETS
 from commands.explanations import explain, explain_policies, lines_of
 from commands.refusals import nearest
 from commands.scenario import joined, origin_of
+from commands.urls import scheme_of
 
 KEYS = ("allowed", "blocked", "reported", "violating", "not violating")
 KEPT_OUT = ("blocked", "reported", "violating")
+LET_IN = ("allowed", "not violating")
 KINDS = ("fetch", "image", "audio", "video", "style", "script", "font", "manifest")
 ITEM = re.compile(r"(?:document ([0-9]{1,3}) )?(\S+) (\S.*)", re.S)
 EXAMPLE = '"script https://cdn.example/app.js"'
@@ -46,17 +49,20 @@ def problem(text):
         return 'nothing is loaded as "%s": write %s' % (kind, '"%s"' % meant if meant else "one of " + ", ".join(KINDS))
     if re.search(r"\s", url):
         return "a URL has no blanks: write %20 for one, and each URL in a text of its own"
-    scheme = re.match(r"([A-Za-z][A-Za-z0-9+.-]*):", url)
-    if scheme and scheme.group(1).lower() not in ("http", "https"):
-        return 'no policy is asked here about "%s:": this engine loads http and https alone' % scheme.group(1)
+    scheme = scheme_of(url) if re.match(r"[A-Za-z][A-Za-z0-9+.-]*:", url) else ""
+    if scheme in SOCKETS and kind != "fetch":
+        return 'a WebSocket is asked for by a script: write "fetch %s"' % url
+    if scheme not in ("", "http", "https", *LOCAL, *SOCKETS):
+        return 'no policy is asked here about "%s:", but about http, https, data, blob, ws and wss' % scheme
     if "${" in url:
         return "no template stands in this URL: write %24{ for ${"
     return None
 
 
-def differences(expect, scenario, kept_out, passing):
+def differences(expect, scenario, kept_out, passing, lacking):
     """Lines for each question that is answered otherwise than expected. What is to pass is added to `passing`: the
-    number of the document, the case, and whether enforced policies and those that only report are to let it pass."""
+    number of the document, the case, and whether enforced policies and those that only report are to let it pass. What
+    a policy lacks is added to `lacking`: the names of directives by the document's number and that of the policy."""
     questions = [Question(key, text) for key in KEYS for text in listed(expect.get(key, []))]
     count = len(scenario.documents())
     for question in questions:
@@ -65,10 +71,27 @@ def differences(expect, scenario, kept_out, passing):
                 question.key, question.text, count, "" if count == 1 else "s")
     known = [question for question in questions if question.document < count]
     for case, question in answered(scenario.data, known):
-        if case and question.key in ("allowed", "not violating"):
+        if case and question.key in LET_IN:
             keep_out(case, kept_out.get(question.document))
             passing.append((question.document, case, True, question.key == "not violating"))
-        yield from difference(question, case)
+        lines = list(difference(question, case))
+        yield from lines
+        lack = lacking_of(question.key, case) if lines and case and question.key in KEPT_OUT else None
+        if lack:
+            yield "  change: let policy %d say `%s 'none'`, or in the place of `'none'` what is to pass" % lack
+            lacking.setdefault(question.document, {}).setdefault(lack[0], []).append(lack[1])
+
+
+def lacking_of(key, case):
+    """The first policy that may refuse or report what a case asks for, and in which no directive decides on it: its
+    number, and the directive; None where there is none."""
+    effective = csp.EFFECTIVE[case.kind]
+    name = csp.written_for("default-src", effective)
+    dispositions = {"blocked": [True], "reported": [False]}.get(key, [True, False])
+    asked = {one.policy for one in case.questions()}
+    return next(((number, name) for number, (enforced, _) in enumerate(case.policies)
+                 if number in asked and enforced in dispositions
+                 and csp.deciding(case.mended[number], effective)[0] not in case.mended[number]), None)
 
 
 def kept_out(expect, documents):
@@ -79,6 +102,14 @@ def kept_out(expect, documents):
             page = documents[question.document]["url"]
             asked = csp.Asked(joined(question.url, page), page, question.kind, "", "", True, False)
             found.setdefault(question.document, []).append(asked)
+    return found
+
+
+def let_in(expect):
+    """By the number of a document kinds and URLs of what is to pass its policies."""
+    found = {}
+    for question in (Question(key, text) for key in LET_IN for text in listed(expect.get(key, []))):
+        found.setdefault(question.document, []).append((question.kind, question.url))
     return found
 
 
@@ -148,15 +179,17 @@ def difference(question, case):
         yield "%s: %s was not asked: the play of its document has too many lines" % (question.key, question.text)
         return
     violations = findings.told_violations(case)
-    is_reported = any(not one.enforced for one in case.fetch.of("violation"))
+    dispositions = [one["disposition"] for one in findings.violations(case)]
+    is_reported = "report" in dispositions
     is_blocked = not case.result.is_fault and case.result.number in POLICY_ERRORS
+    is_blocked = is_blocked or case.is_unloaded and "enforce" in dispositions
     yield from DIFFERENCES[question.key](question.text, case, violations, is_blocked, is_reported)
 
 
 def not_allowed(text, case, violations, is_blocked, is_reported):
-    if is_blocked or not case.exchanges:  # by another rule, where nothing is sent
+    if is_blocked or not (case.exchanges or case.is_open):  # by another rule, where nothing is sent
         yield "allowed: expected that %s is let through; it came to %s" % (text, case.result.short())
-        yield from ("  " + line for line in lines_of(case))
+        yield from advised(case, False)
 
 
 def not_blocked(text, case, violations, is_blocked, is_reported):
@@ -182,7 +215,13 @@ def not_violating(text, case, violations, is_blocked, is_reported):
 def violating(text, case, violations, is_blocked, is_reported):
     if violations:
         yield "not violating: expected that %s violates no policy; there is %s" % (text, "; ".join(violations))
-        yield from ("  " + line for line in lines_of(case, True))
+        yield from advised(case, True)
+
+
+def advised(case, with_reports):
+    """Why it is refused, and what to change; of a URL that this engine does not load what its policies say of it."""
+    with_all = not (case.is_unloaded and case.violations)
+    yield from ("  " + line for line in lines_of(case, with_reports, with_all))
 
 
 def let_through(case):

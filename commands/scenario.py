@@ -137,6 +137,7 @@ class Scenario:
         self.rules_by = {}
         self.told_by = {}
         self.mended_by = {}
+        self.more_asks = {}  # as ask_besides has it
         self.budget = None  # of what is mended
         self.answers = {}  # of its rules, by the numbers of the server and the rule
 
@@ -183,9 +184,13 @@ class Scenario:
             from commands.lints import mending, reading  # where there are headers
             self.budget = self.budget or reading.Budget()
             document = self.documents()[number]
-            given = document.get("headers", []), document["url"], lints.asks_of(document), self.budget
+            given = document.get("headers", []), document["url"], lints.asks_of_policies(self, number), self.budget
             self.mended_by[number] = mending.of_document(*given), list(mending.unread(*given))
         return self.mended_by[number]
+
+    def ask_besides(self, more):
+        """By the number of a document kinds and URLs that its policies are to let pass: what is mended is so anew."""
+        self.more_asks, self.mended_by, self.budget = more, {}, None
 
     def told_rules(self, server):
         """Some of the requests that a server has rules for, in words."""

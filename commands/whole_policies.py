@@ -53,15 +53,18 @@ class Whole(namedtuple("Whole", "policy enforced text value changes mended besid
                 "besides": besides}
 
 
-def whole(scenario, number: int, cases: list, is_wanted=lambda case, policy: True) -> list[Whole]:
+def whole(scenario, number: int, cases: list, is_wanted=lambda case, policy: True,
+          lacking: dict[int, list[str]] | None = None) -> list[Whole]:
     """Each policy of a document for which there is a change, in order. `is_wanted(case, policy)` says whether a case is
-    to pass the policy of this number."""
+    to pass the policy of this number. `lacking` are directives that policies have to get: they let nothing pass but
+    what is wanted."""
     headers = scenario.documents()[number].get("headers", [])
-    texts, mended = csp.texts(headers), scenario.mended_policies(number)
+    texts, lacking = csp.texts(headers), lacking or {}
+    mended = [refusing(one, lacking.get(index, [])) for index, one in enumerate(scenario.mended_policies(number))]
     unread = scenario.unread_policies(number)
     policies = [(enforced, csp.directives(one.text)) for (enforced, _), one in zip(texts, mended)]
     policies += [(csp.HEADERS[one.name.lower()], csp.directives(one.mended.text)) for one in unread]
-    found: dict[int, Gathered] = {}
+    found = {index: Gathered(names) for index, names in lacking.items()}
     for case in cases:
         under = case.under(policies)
         for violation in under.violations:
@@ -77,10 +80,19 @@ def whole(scenario, number: int, cases: list, is_wanted=lambda case, policy: Tru
     return wholes
 
 
-class Gathered:
-    """The changes of one policy: values by directives, and what else is to be changed."""
+def refusing(mended, names: list[str]):
+    """The policy with directives that let nothing pass."""
+    text = mended.text
+    for name in names:
+        text = csp.with_directive(text, name, "'none'")
+    return mended._replace(text=text)
 
-    def __init__(self) -> None:
+
+class Gathered:
+    """The changes of one policy: values by directives, what else is to be changed, and the directives that it lacks."""
+
+    def __init__(self, lacking: list[str] | None = None) -> None:
+        self.lacking = set(lacking or [])
         self.by_name: dict[str, dict[str, None]] = {}
         self.besides: list[tuple[str, list[dict]]] = []
 
@@ -97,7 +109,7 @@ class Gathered:
         own, value = csp.directives(mended.text), mended.text
         for name, values in self.by_name.items():
             value = csp.with_directive(value, name, merged(own.get(name, own.get("default-src", [])), list(values)))
-        changes = sum(map(len, self.by_name.values())) + len(self.besides)
+        changes = sum(map(len, self.by_name.values())) + len(self.besides) + len(self.lacking)
         return Whole(number, enforced, text, value, changes, mended, self.besides)
 
 

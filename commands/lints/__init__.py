@@ -98,7 +98,7 @@ def places(scenario, budget):
     for number, document in enumerate(scenario.documents()):
         path = ["documents", number]
         if "headers" in document:
-            headers = Headers(DOCUMENT, document["headers"], document["url"], asks[number])
+            headers = Headers(DOCUMENT, document["headers"], document["url"], asks_of_policies(scenario, number))
             yield Place([*path, "headers"], headers.things(budget), document["url"])
         yield from command_places(document, path, budget)
     yield from answer_places(scenario, [ask for own in asks for ask in own], budget)
@@ -109,6 +109,12 @@ def asks_of(document):
     return [Ask(document["url"], given["kind"] if kind == "load" else "fetch", given["url"],
                 [name for name, _ in given.get("headers", [])], given.get("method"))
             for _, kind, given in commands(document["script"]) if "${" not in given["url"]]
+
+
+def asks_of_policies(scenario, number):
+    """The same and what a test wants the document's policies to let pass."""
+    document = scenario.documents()[number]
+    return asks_of(document) + [Ask(document["url"], *one) for one in scenario.more_asks.get(number, [])]
 
 
 def command_places(document, path, budget):

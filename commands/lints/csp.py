@@ -9,6 +9,7 @@ from commands.lints.reading import POLICY, REPORT_ONLY
 OBSOLETE_NAMES = ("x-content-security-policy", "x-content-security-policy-report-only", "x-webkit-csp",
                   "x-webkit-csp-report-only")
 REPORTING = ("report-to", "report-uri")
+IDLE = (*REPORTING, *grammar.OBSOLETE)  # directives that restrict nothing
 CHECK_IN_BROWSER = "open the page in a browser, and look for violations in its console"
 # What a play does not look at, and what it takes to check it.
 NOT_PLAYED = {
@@ -82,7 +83,7 @@ HEADERS = [
 # ---- policies
 
 def is_idle(directive):
-    return directive.name in (*REPORTING, *grammar.OBSOLETE) or not directive.is_known
+    return directive.name in IDLE or not directive.is_known
 
 
 def is_idle_policy(policy):
@@ -90,7 +91,7 @@ def is_idle_policy(policy):
 
 
 def does_nothing(policy):
-    is_meant = any(one in grammar.SOURCES for one in meant_names(policy))
+    is_meant = any(one and one not in IDLE for one in meant_names(policy))
     return is_idle_policy(policy) and not policy.is_pasted and not comma(policy) and not is_meant
 
 
