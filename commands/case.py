@@ -9,8 +9,8 @@ from functools import cached_property
 from urllib.parse import urlsplit
 
 from commands import answers, csp, edits
-from commands.needs import (ALLOW_CREDENTIALS, ALLOW_HEADERS, ALLOW_METHODS, ALLOW_ORIGIN, EXPOSE_HEADERS, TOKEN, Needs,
-                            each_once, items_of, missed, unseen)
+from commands.needs import (ALLOW_CREDENTIALS, ALLOW_HEADERS, ALLOW_METHODS, ALLOW_ORIGIN, EXPOSE_HEADERS, KEPT_METHODS,
+                            TOKEN, Needs, each_once, items_of, missed, unseen)
 from commands.play_text import header_of, is_preflight
 from commands.scenario import joined, origin_of
 from commands.urls import host_of, is_address, is_trustworthy, scheme_of, secure
@@ -301,7 +301,8 @@ class Case:
 
     @property
     def and_vary(self):
-        return "" if self.varies else "; and `Vary: Origin`, where several origins ask"
+        is_said = self.varies or self.method not in KEPT_METHODS
+        return "" if is_said else "; and `Vary: Origin`, where several origins ask"
 
     @property
     def preflight_head(self):
