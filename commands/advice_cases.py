@@ -248,7 +248,10 @@ OTHERS = {
         fetch(**SECRET, **INCLUDE), allow(TRUE, names("*"))),
     "two pages that ask": {**scenario(fetch(), [rule(200, [OTHER])]), "documents": [
         {"url": page, "script": [fetch()]} for page in (PAGE + "/", "https://news.test/")]},
-    "two pages that put": {**scenario(fetch(**PUT), [asked(204, STAR, methods("PUT")), rule(200, [OTHER])]), "documents": [
+    "mixed content, and no CORS over https": scenario(fetch("http://api.test/x"), [rule(200, [OTHER])]),
+    "mixed content, and no preflight over https": scenario(
+        fetch("http://api.test/x", **PUT), [asked(405), rule(200, [OK])]),
+    "two pages that put": {**scenario([], [asked(204, STAR, methods("PUT")), rule(200, [OTHER])]), "documents": [
         {"url": page, "script": [fetch(**PUT)]} for page in (PAGE + "/", "https://news.test/")]},
     "a PUT of another origin": scenario(fetch(**PUT), [asked(204, STAR, methods("PUT")), rule(200, [OTHER])]),
     "methods without blanks": scenario(

@@ -477,6 +477,9 @@ def way_lines():
         yield "%s (%s): %s" % (way.name, way.results, condition)
 
 
+MIXED_CONTENT = [way for way in TABLE if way.results == "3"]
+
+
 class Explanation:
     """A way that holds of a case, with its texts filled in. `edits` are the change as data (edits.py), and `others`
     what would do in its place, which `change` says too, and `first_change` does not."""
@@ -511,6 +514,7 @@ class Explanation:
         self.exposing = changes.expose_too(c) if is_of_cors else []
         lines = c.needs_told.lines() if is_asked else []
         self.in_all = lines + [exposed(edit, c.own_head is None) for edit in self.exposing]
+        self.in_all += c.lacking_over_https if way in MIXED_CONTENT else []
 
     def lines(self):
         """As it stands between the lines of a play."""

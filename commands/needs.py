@@ -154,11 +154,21 @@ class Needs:
         return ["the answer to OPTIONS needs a status of 200 to 299, " + asked,
                 "the answer to %s needs %s%s" % (self.method, own, self.known())]
 
+    def lacking(self):
+        """What the answers lack, in a sentence for each of them."""
+        asked = self.preflight_edits() if self.is_preflighted() else []
+        return ["the answer to %s at %s needs %s" % (method, self.url, ", ".join(map(lack, own)))
+                for method, own in (("OPTIONS", asked), (self.method, self.own_edits())) if own]
+
     def known(self):
         """What is to be said of an answer that did not come, or that has all that it needs."""
         if self.own is None:
             return ", where it does not send that yet"
         return "" if self.own_edits() else ", and has that"
+
+
+def lack(edit):
+    return "a status of 200 to 299" if edit["set"] == "status" else edits.told(edit)
 
 
 def is_missing(head, name, value):
