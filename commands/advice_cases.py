@@ -222,6 +222,9 @@ HOSTS = {
     "a host that is forgotten": scenario(
         [load("image", PAGE + "/i.png"), fetch("/x")], [rule(200, [["Strict-Transport-Security", "max-age=0"]])], PAGE,
         page=PLAIN, hsts=KNOWN["hsts"], servers=[{"origin": "http://shop.test", "rules": [rule(200)]}]),
+    "max-age=0 of a host that was not known": scenario(
+        [load("image", PAGE + "/i.png"), fetch("/x")], [rule(200, [["Strict-Transport-Security", "max-age=0"]])], PAGE,
+        page=PLAIN, servers=[{"origin": "http://shop.test", "rules": [rule(200)]}]),
     "a term that has ended": scenario(
         [{"wait": 20}, fetch(UNDER + "/x")], [rule(200, [STAR])], UNDER, page=PLAIN,
         hsts=[{"host": "www.shop.test", "subdomains": False, "until": 10}]),
@@ -245,6 +248,14 @@ OTHERS = {
         fetch(**SECRET, **INCLUDE), allow(TRUE, names("*"))),
     "two pages that ask": {**scenario(fetch(), [rule(200, [OTHER])]), "documents": [
         {"url": page, "script": [fetch()]} for page in (PAGE + "/", "https://news.test/")]},
+    "mixed content, and no CORS over https": scenario(fetch("http://api.test/x"), [rule(200, [OTHER])]),
+    "mixed content, and no preflight over https": scenario(
+        fetch("http://api.test/x", **PUT), [asked(405), rule(200, [OK])]),
+    "two pages that put": {**scenario([], [asked(204, STAR, methods("PUT")), rule(200, [OTHER])]), "documents": [
+        {"url": page, "script": [fetch(**PUT)]} for page in (PAGE + "/", "https://news.test/")]},
+    "a PUT of another origin": scenario(fetch(**PUT), [asked(204, STAR, methods("PUT")), rule(200, [OTHER])]),
+    "methods without blanks": scenario(
+        fetch(**PUT), [asked(204, OTHER, methods("GET,PUT")), rule(200, [OTHER])]),
     "a data URL that nothing hinders": scenario(load("image", "data:image/png,a")),
     "a data URL under two policies": scenario(
         load("font", "data:font/woff2,a"), headers=[[POLICY, "default-src 'self'"], [POLICY, "font-src *"]]),

@@ -8,9 +8,9 @@ from collections import namedtuple
 from functools import cached_property
 from urllib.parse import urlsplit
 
-from commands import answers, csp, edits
-from commands.needs import (ALLOW_CREDENTIALS, ALLOW_HEADERS, ALLOW_METHODS, ALLOW_ORIGIN, EXPOSE_HEADERS, TOKEN, Needs,
-                            each_once, items_of, missed, unseen)
+from commands import answers, csp, edits, guards
+from commands.needs import (ALLOW_CREDENTIALS, ALLOW_HEADERS, ALLOW_METHODS, ALLOW_ORIGIN, EXPOSE_HEADERS, KEPT_METHODS,
+                            TOKEN, Needs, each_once, items_of, missed, unseen)
 from commands.play_text import header_of, is_preflight
 from commands.scenario import joined, origin_of
 from commands.urls import host_of, is_address, is_trustworthy, scheme_of, secure
@@ -286,6 +286,20 @@ class Case:
                      self.head if is_asked else None, self.own_head, is_asked, self.varies)
 
     @property
+    def lacking_over_https(self):
+        """What CORS will want of the scenario's answers over https, where that is asked for in the place of mixed
+        content."""
+        url, options = secure(self.url), self.command.options
+        is_of_cors = options["mode"] == "cors" and origin_of(url) != self.page_origin
+        if self.chain or self.is_net or not is_of_cors or self.scenario.server_of(origin_of(url)) is None:
+            return []
+        method = guards.normalised(options["method"])
+        names = guards.unsafe_names(guards.kept(self.command.headers, "cors"))
+        asked, own = (answers.scripted(self.scenario, Request(url, one)).head for one in ("OPTIONS", method))
+        needs = Needs(url, self.page_origin, self.includes, method, names, asked, own, self.has_listener)
+        return needs.lacking() if own else []
+
+    @property
     def varies(self):
         """Whether pages of other origins ask for the URL of the last request too, or may."""
         return self.is_net or len(self.scenario.askers.get((self.request.origin, self.request.target), ())) > 1
@@ -301,7 +315,8 @@ class Case:
 
     @property
     def and_vary(self):
-        return "" if self.varies else "; and `Vary: Origin`, where several origins ask"
+        is_said = self.varies or self.method not in KEPT_METHODS
+        return "" if is_said else "; and `Vary: Origin`, where several origins ask"
 
     @property
     def preflight_head(self):

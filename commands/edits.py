@@ -11,6 +11,7 @@ answer, page, request or scenario), and `set`, `remove` or `add` what, with its 
     {"at": "scenario", "set": "body_limit", "value": 1048576}
 
 `commands/advice.py` makes each of them."""
+import re
 from itertools import groupby
 
 LONGEST = 4096  # characters of a directive in a sentence
@@ -68,6 +69,8 @@ def body_limit(number):
 # ---- sentences
 
 LONGEST_BEFORE = 80  # characters of a value that is replaced
+STARRED = ("Access-Control-Allow-Methods", "Access-Control-Allow-Headers")
+NO_WILDCARD = " (with credentials never send `*` here)"
 REQUEST = {
     "url": "ask for %s",
     "mode": "ask in mode %s",
@@ -91,7 +94,13 @@ def told(edit):
     if before in (None, edit["value"]):
         return line_of(edit)
     shown = before if len(before) <= LONGEST_BEFORE else before[:LONGEST_BEFORE] + ".."
-    return "%s in place of `%s`" % (line_of(edit), shown)
+    return "%s in place of `%s`%s" % (line_of(edit), shown, NO_WILDCARD if is_star_gone(edit) else "")
+
+
+def is_star_gone(edit):
+    """Whether names replace a `*` of what a preflight's answer lists, as they do where credentials go along."""
+    was, is_now = ("*" in re.split(r"[,\s]+", edit[key]) for key in ("replaces", "value"))
+    return edit["set"] in STARRED and was and not is_now
 
 
 def listed(texts):

@@ -3,8 +3,8 @@ import functools
 import os
 import re
 
-from commands import (asking, edits, findings, json_text, lints, notes, play_text, policy_questions, refusals, results,
-                      running, streams, verdicts)
+from commands import (asking, edits, findings, json_text, known_hosts, lints, notes, play_text, policy_questions, refusals,
+                      results, running, streams, verdicts)
 from commands.asking import Wrong
 from commands.case import CAUSES
 from commands.explanations import TABLE, explain, lines_of
@@ -96,7 +96,8 @@ def of_outcome(place, value):
         names = ", ".join('"%s"' % name for name in LOOKS)
         yield value, place, 'nothing is looked at here: write "result", or one of ' + names
     else:
-        for name, problem in (("result", result_problem), ("why", way_problem), ("violations", violation_problem)):
+        for name, problem in (("result", result_problem), ("why", way_problem), ("violations", violation_problem),
+                              ("upgraded", upgrade_problem)):
             if value.member(name) is not None:
                 yield from of_items(value.member(name), "%s/%s" % (place, name), problem)
 
@@ -128,6 +129,14 @@ def violation_problem(wanted):
     meant = refusals.nearest(name + "-elem", DIRECTIVES) or refusals.nearest(name, DIRECTIVES)
     return 'no violation has the directive "%s": write %s' % (
         name, '"%s"' % meant if meant else "one of " + ", ".join(DIRECTIVES))
+
+
+def upgrade_problem(wanted):
+    """What stands behind the URL is the word of a cause."""
+    _, gap, word = wanted.partition(" ")
+    if not gap or word in CAUSES:
+        return None
+    return 'no upgrade has the cause "%s": behind the URL write one of %s' % (word, ", ".join(sorted(CAUSES)))
 
 
 def scenario_of(node, text, path):
@@ -382,9 +391,16 @@ def look_at_upgrades(case, wanted):
         return
     told = ", ".join("%s (%s)" % (one["to"], CAUSES[one["cause"]]) for one in came)
     first = "expected an upgrade to " + ", ".join(wanted) if wanted else "expected no upgrade"
-    why = ": " + case.stays_plain if case.stays_plain else ""
-    yield "%s; %s" % (first, "it was upgraded to " + told if came else "there was none" + why)
+    yield "%s; %s" % (first, "it was upgraded to " + told if came else "there was none" + why_plain(case, wanted))
     yield from (note for note in case.notes if note.startswith(notes.IN_A_BROWSER))
+
+
+def why_plain(case, wanted):
+    """Why the last URL was not upgraded. Of HSTS nothing is said where another cause is expected."""
+    is_of_hsts = all(one.partition(" ")[2] in ("", "hsts") for one in wanted)
+    own = known_hosts.why_unknown(case.hops[-1].asked) if case.hops and is_of_hsts else ""
+    why = case.stays_plain or own
+    return ": " + why if why else ""
 
 
 # What a fetch that is refused has not, or has not done, and so is not looked at where it was to be read.

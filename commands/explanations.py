@@ -118,8 +118,7 @@ PREFLIGHTS = [
         ALLOW_METHODS, "{change}", PREFLIGHT, changes.cors),
     Way("preflight/method-star-with-credentials", "10", lambda c: "*" in c.methods and c.includes,
         "Access-Control-Allow-Methods is `*`, which covers no method of a request with credentials", ALLOW_METHODS,
-        "list the method beside it, since it counts for requests without credentials: {change}", PREFLIGHT,
-        changes.cors),
+        "list the method in its place: {change}", PREFLIGHT, changes.cors),
     Way("preflight/method-in-another-case", "10", lambda c: c.same_method != "",
         "Access-Control-Allow-Methods has `{c.same_method}`, and the request's method is `{c.method}`: the case counts",
         ALLOW_METHODS, "{change}", PREFLIGHT, changes.method_in_another_case),
@@ -138,8 +137,7 @@ PREFLIGHTS = [
         ALLOW_HEADERS, "{change}", PREFLIGHT, changes.cors),
     Way("preflight/header-star-with-credentials", "11", lambda c: "*" in c.names and c.includes,
         "Access-Control-Allow-Headers is `*`, which covers no header of a request with credentials", ALLOW_HEADERS,
-        "list the names beside it, since it counts for requests without credentials: {change}", PREFLIGHT,
-        changes.cors),
+        "list the names in its place: {change}", PREFLIGHT, changes.cors),
     Way("preflight/header-not-listed", "11", always,
         "Access-Control-Allow-Headers does not have {c.result.detail}", ALLOW_HEADERS,
         "list it beside what is there: {change}", PREFLIGHT, changes.cors),
@@ -171,7 +169,7 @@ POLICIES = [
         "csp.md#when-a-fetch-asks-them-section-41-integration-with-fetch", changes.before_upgrade),
     Way("policy/data-script", "4", lambda c: c.kind == "script" and scheme_of(c.policy_url) == "data",
         "{c.policy} has `{c.directive_text}`, and a word that lets this `data:` URL pass lets every script pass that finds its way "
-        "into the page", "", "serve the script as a file; or {change}", POLICY, changes.nonce),
+        "into the page", "", "{change}; or serve the script as a file", POLICY, changes.nonce),
     Way("policy/strict-dynamic", "4",
         lambda c: c.kind == "script" and "'strict-dynamic'" in [word.lower() for word in c.directive[1]],
         "{c.policy} has `{c.directive_text}`: with 'strict-dynamic' a script that a parser inserted passes by its "
@@ -188,7 +186,7 @@ POLICIES = [
     Way("policy/ip-address", "4", lambda c: c.is_policy_address,
         "{c.policy} has `{c.directive_text}`, and the host of {c.policy_url} is an IP address, which no word with a host "
         "matches", "",
-        "give the server a name; or {change}", WORDS, changes.add_source),
+        "{change}; or give the server a name", WORDS, changes.add_source),
     Way("policy/colon", "4", lambda c: c.near_fault == "colon",
         "{c.policy} has `{c.directive_text}`, where `{c.near_text}` lacks its colon (`{c.near_written}`), and so is the "
         "name of a host", "", "{change}", WORDS, changes.rewrite),
@@ -230,7 +228,7 @@ BEFORE_SENDING = UNLOADED + [
         "mixed-content.md#bad-ports-fetch-section-29-port-blocking", changes.other_port),
     Way("mixed/ip-address", "3", lambda c: c.is_upgradeable_address,
         "the page is secure, and {c.url}{c.where} is not: images, audio and video become https by themselves, but not where "
-        "the host is an IP address", "", "give the server a name; or {change}", MIXED, changes.ask_secure_or_upgrade),
+        "the host is an IP address", "", "{change}; or give the server a name", MIXED, changes.ask_secure_or_upgrade),
     Way("mixed/top", "3", lambda c: c.is_embedded and not c.page_origin.startswith("https:"),
         "the page at the top, {c.top_origin}, is secure, and {c.url}{c.where} is not: what is embedded may not be "
         "laxer{c.but_known}", "", "{change}{c.too_late}", MIXED, changes.ask_secure_or_upgrade),
@@ -479,6 +477,9 @@ def way_lines():
         yield "%s (%s): %s" % (way.name, way.results, condition)
 
 
+MIXED_CONTENT = [way for way in TABLE if way.results == "3"]
+
+
 class Explanation:
     """A way that holds of a case, with its texts filled in. `edits` are the change as data (edits.py), and `others`
     what would do in its place, which `change` says too, and `first_change` does not."""
@@ -513,6 +514,7 @@ class Explanation:
         self.exposing = changes.expose_too(c) if is_of_cors else []
         lines = c.needs_told.lines() if is_asked else []
         self.in_all = lines + [exposed(edit, c.own_head is None) for edit in self.exposing]
+        self.in_all += c.lacking_over_https if way in MIXED_CONTENT else []
 
     def lines(self):
         """As it stands between the lines of a play."""

@@ -48,6 +48,19 @@ def tell(scenario, cases):
         case.plain_reasons = books.setdefault(case.fetch.document.number, Book(hosts, by_site)).reasons(case)
 
 
+def why_unknown(url):
+    """Why HSTS upgrades no URL of this host, where nothing was told that might have made it a known one; an empty text
+    where it is not asked."""
+    host = host_of(url)
+    if scheme_of(url) != "http" or not host:
+        return ""
+    if is_address(host):
+        return "an IP address is never a known host (HSTS)"
+    if is_trustworthy(url):
+        return "a name of localhost is never a known host (HSTS)"
+    return "nothing tells of a known host (HSTS) that %s is, or is below" % host
+
+
 class Book:
     """What a document has learnt by the fetch that is looked at: of each host when it is known, and which fields were
     ignored."""
@@ -56,6 +69,7 @@ class Book:
         self.hosts = ChainMap({}, hosts)
         self.by_site = ChainMap({}, by_site)
         self.ignored = {}
+        self.never = set()  # hosts whose answer said max-age=0, though they were not known
 
     def reasons(self, case):
         """For each URL of a chain why it stays http, though a host was meant to be known; or an empty text."""
@@ -73,8 +87,11 @@ class Book:
         if int(age):
             self.hosts[host] = Known(subdomains == "sub", int(at) + int(age))
             self.by_site[site_of(host)] = host
+            self.never.discard(host)
         elif host in self.hosts:
             self.hosts[host] = self.hosts[host]._replace(until=0)
+        else:
+            self.never.add(host)
         self.ignored.pop(host, None)
 
     def look_at_fields(self, case):
@@ -94,7 +111,7 @@ class Book:
         if is_known or hop.origin is None:  # what was refused before the list is asked
             return self.of_order(case, hop) if is_known else ""
         return (self.of_parent(names, now) or self.of_term(names, now) or self.of_field(names)
-                or self.of_neighbour(host, now))
+                or self.of_zero(names) or self.of_neighbour(host, now))
 
     def covers(self, name, host):
         return name in self.hosts and (name == host or self.hosts[name].subdomains)
@@ -117,6 +134,10 @@ class Book:
         until = self.hosts[ended].until
         how = "until second %d, and it is second %d" % (until, now) if until else "until an answer said max-age=0"
         return "%s was a known host (HSTS) %s" % (ended, how)
+
+    def of_zero(self, names):
+        name = next((name for name in names if name in self.never), None)
+        return "the %s of %s said max-age=0, and that makes no known host" % (FIELD, name) if name else ""
 
     def of_neighbour(self, host, now):
         other = self.by_site.get(site_of(host))

@@ -11,6 +11,7 @@ ALLOW_METHODS = "Access-Control-Allow-Methods"
 ALLOW_HEADERS = "Access-Control-Allow-Headers"
 EXPOSE_HEADERS = "Access-Control-Expose-Headers"
 VARY = "Vary"
+KEPT_METHODS = ("GET", "HEAD")  # whose answers caches keep (RFC 9111, section 3)
 TOKEN = re.compile(r"[!#$%&'*+\-.^_`|~0-9A-Za-z]+")
 LIKE_CORS = re.compile(r"ac+es+-cont?rol-", re.I)  # a header of CORS, written right or wrong
 # What a script of another origin sees of each answer (Fetch, section 2.2.2, "CORS-safelisted response-header name").
@@ -101,7 +102,9 @@ class Needs:
         """That caches keep an answer which allows one origin for pages of that one alone (Fetch, "CORS protocol and
         HTTP caches")."""
         is_one_of_many = self.varies and self.origin not in ("null", origin_of(self.url))
-        if not is_one_of_many or self.own and "no-store" in items_of((self.own.get("Cache-Control") or "").lower()):
+        if not (is_one_of_many and self.method in KEPT_METHODS):
+            return []
+        if self.own and "no-store" in items_of((self.own.get("Cache-Control") or "").lower()):
             return []
         value = self.own.get(VARY) if self.own else None
         is_there = {"origin", "*"} & set(items_of((value or "").lower()))
@@ -113,13 +116,18 @@ class Needs:
                 + self.of_list(ALLOW_HEADERS, self.names, True))
 
     def of_list(self, name, wanted, as_names):
-        """A list of the preflight's answer: what is there and what is wanted, and nothing that is covered already."""
+        """A list of the preflight's answer: what is there and what is wanted, and nothing that is covered already. One
+        that lacks nothing stays as it is written. Where credentials go along names replace a `*`: a cache that keeps
+        it lets later requests skip their preflight."""
         value = self.asked.get(name) if self.asked else None
         there = [item.lower() if as_names else item for item in items_of(value)]
         free = "*" in there and not self.includes
         more = [one for one in wanted if one not in there and not (free and one != "authorization")]
         is_bad = not all(map(TOKEN.fullmatch, items_of(value)))
-        return [(name, merged(value, more, as_names))] if wanted or is_bad else []
+        if not (more or is_bad):
+            return [(name, value)] if wanted else []
+        kept = ",".join(item for item in items_of(value) if item != "*" or not self.includes)
+        return [(name, merged(kept, more, as_names))]
 
     def preflight_edits(self):
         """What is to be changed at the answer to the preflight, all at once."""
@@ -146,11 +154,21 @@ class Needs:
         return ["the answer to OPTIONS needs a status of 200 to 299, " + asked,
                 "the answer to %s needs %s%s" % (self.method, own, self.known())]
 
+    def lacking(self):
+        """What the answers lack, in a sentence for each of them."""
+        asked = self.preflight_edits() if self.is_preflighted() else []
+        return ["the answer to %s at %s needs %s" % (method, self.url, ", ".join(map(lack, own)))
+                for method, own in (("OPTIONS", asked), (self.method, self.own_edits())) if own]
+
     def known(self):
         """What is to be said of an answer that did not come, or that has all that it needs."""
         if self.own is None:
             return ", where it does not send that yet"
         return "" if self.own_edits() else ", and has that"
+
+
+def lack(edit):
+    return "a status of 200 to 299" if edit["set"] == "status" else edits.told(edit)
 
 
 def is_missing(head, name, value):

@@ -190,7 +190,8 @@ def of_answers(told_play):
 
 
 def headers_of(case, request, head):
-    ask = Ask(case.document["url"], case.kind, case.command.url, [name for name, _ in case.command.headers])
+    ask = Ask(case.document["url"], case.kind, case.command.url, [name for name, _ in case.command.headers],
+              request.method)
     asks = ([], [ask]) if is_preflight(request) else ([ask], [])
     return Headers(ANSWER, head.headers, request.origin + request.target, *asks, is_real=True)
 

@@ -85,9 +85,9 @@ def star_with_credentials(field):
 
 
 def vary_missing(field):
-    """One origin, where others ask too, or may."""
+    """One origin, where others ask too, or may, by a method whose answers caches keep (RFC 9111, section 3)."""
     headers = field.headers
-    pages = {ask.page_origin for ask in headers.asks}
+    pages = {ask.page_origin for ask in headers.asks if ask.method in ("GET", "HEAD")}
     if field.value not in pages or field.value == headers.origin or field.count > 1:
         return None
     if not (headers.is_real or len(pages) > 1):
