@@ -182,9 +182,9 @@ class Answered:
     def of_coding(self, exchange):
         """What is to be said of a body that came coded, though the request said identity."""
         stream = exchange.stream
-        if stream.is_opened:
+        if stream.is_opened and not (stream.cut and stream.cut.is_other):
             yield "%s: the body came as %s all the same: it was decoded, as a browser does it%s" % (
-                exchange.origin, ", ".join(stream.codings), "; " + stream.fault if stream.fault else "")
+                exchange.origin, ", ".join(stream.codings), "; %s" % stream.cut if stream.cut else "")
         if stream.lacks and any(case.result.name == "Coding" for case in self.told.cases):
             packages = list(filter(None, map(PACKAGES.get, stream.lacks)))
             yield "%s: %s is not decoded here%s" % (
