@@ -703,8 +703,16 @@ class Case:
     @property
     def is_gzip(self):
         """Whether the body, as it came, begins as gzip does, and Content-Encoding says another coding."""
-        says_it = self.coding.split(",")[-1].strip().lower() in ("gzip", "x-gzip")
-        return not says_it and self.answer.sent()[:2] == GZIP
+        return not self.says_gzip and self.answer.sent()[:2] == GZIP
+
+    @property
+    def says_gzip(self):
+        return self.coding.split(",")[-1].strip().lower() in ("gzip", "x-gzip")
+
+    @property
+    def is_no_gzip(self):
+        """Whether Content-Encoding says gzip, and the body, as it came, begins otherwise."""
+        return self.says_gzip and not GZIP.startswith(self.answer.sent()[:2])
 
     @property
     def but_gzip(self):

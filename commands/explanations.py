@@ -309,10 +309,11 @@ ANSWERS = [
         "an answer with the status {c.status} to {c.request.method} has no body that could match", "",
         "{change}", BODY, changes.body_or_no_integrity),
     Way("body/not-its-coding", "22 s", lambda c: c.is_short and c.wrong_coding is not None,
-        "the body is not {c.wrong_coding}, as Content-Encoding says{c.but_gzip}", "Content-Encoding", "{c.right_coding}",
-        "../ask.md"),
+        "the body is not {c.wrong_coding}, as Content-Encoding says{c.but_gzip}", "Content-Encoding",
+        "{c.right_coding}", "../ask.md"),
     Way("body/coding-cut", "22 s", lambda c: c.is_short and c.cut_coding is not None,
-        "the {c.cut_coding} body is cut{c.but_length}", "Content-Encoding", "send all of it{c.and_length}", "../ask.md"),
+        "the {c.cut_coding} body is cut{c.but_length}", "Content-Encoding", "send all of it{c.and_length}",
+        "../ask.md"),
     Way("body/two-lengths", "22 s", lambda c: c.is_short and len(c.lengths) > 1,
         "the answer has {c.lengths_told}: both browsers make that a network error "
         "(docs/BROWSERS.md#bytes-on-the-wire)", "Content-Length", "let one of them alone stand there, the right one",
@@ -470,8 +471,8 @@ ASKED = {
     "link/refused": ("nothing listens at {c.route}", "start the server, or mend the port of the URL"),
     "seen/body-cut": ("the body ends before the end that its head announced{c.or_unfit}{c.but_length}",
                       "{c.whole_again}"),
-    "no-verdict/coded": ("no verdict: {c.coding} is not decoded here; a browser would read the body only if it is of that "
-                         "coding{c.but_gzip}; CORS, policies and types let it",
+    "no-verdict/coded": ("no verdict: {c.coding} is not decoded here; a browser would read the body only if it is of "
+                         "that coding{c.but_gzip}; CORS, policies and types let it",
                          "{c.if_gzip}for a verdict here send the body uncoded, and {change}{c.unless_gzip}"),
     "seen/body-toobig": ("the body is longer than the 1,048,576 bytes that are read here", "nothing: a page reads on"),
 }
