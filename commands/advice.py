@@ -22,7 +22,8 @@ UNMADE = {
                      "cors/tls-port-asked-in-plain", "head/tls"],
                     "a connection is mended where it is made, and not by a header or the page"),
     **dict.fromkeys(["head/nothing", "head/no-status-line"], "what the server meant to answer is not known"),
-    **dict.fromkeys(["seen/body-hang", "seen/body-fault"], "a body that stops is mended in the server's program"),
+    **dict.fromkeys(["body/not-its-coding", "body/coding-cut", "seen/body-hang", "seen/body-fault"],
+                    "a body that stops is mended in the server's program"),
     "scheme/other": "whether a server has it over https is not known",
     **dict.fromkeys(["redirect/long-location", "redirect/no-url", "redirect/scheme"],
                     "where the redirect was to lead is not known"),
@@ -56,7 +57,8 @@ def step_of_integrity(case):
     if way == "integrity/opaqueredirect":
         return "14"
     names = {"opaque": "22 opaque", "no-body": "22 without a body", "incomplete": "22 incomplete",
-             "toobig": "22 incomplete"}
+             "toobig": "22 incomplete", "not-its-coding": "22 incomplete", "coding-cut": "22 incomplete",
+             "two-lengths": "22 incomplete"}
     return names.get(way.partition("/")[2], "22")
 
 

@@ -77,10 +77,14 @@ class Answer:
             self.known_body = self.framed(self.data[self.head.end:])
         return self.known_body
 
+    def sent(self):
+        """The same as it was sent: not decoded."""
+        return Answer.framed(self, self.data[self.head.end:])
+
     def framed(self, rest):
         if (self.head.get("Transfer-Encoding") or "").lower() == "chunked":
             return Chunks().feed(rest)
-        return rest[:self.length()]
+        return rest[:Answer.length(self)]
 
     def length(self):
         """The number of Content-Length; None where there is none, or no such number."""

@@ -176,19 +176,34 @@ class Answered:
         found += [self.of_cookies()] if said.cookies else []
         found += ["%s: %s" % (one.origin, one.note) for one in self.wire.exchanges if one.note]
         found += [note for one in self.wire.exchanges for note in self.of_coding(one)]
+        found += [self.of_unread(case) for case in self.told.cases if case.result.type == "loaded"]
         found += lints.notes(self.told)
         return list(dict.fromkeys(filter(None, found)))
 
     def of_coding(self, exchange):
         """What is to be said of a body that came coded, though the request said identity."""
         stream = exchange.stream
-        if stream.is_opened:
+        if stream.is_opened and not (stream.cut and stream.cut.is_other):
             yield "%s: the body came as %s all the same: it was decoded, as a browser does it%s" % (
-                exchange.origin, ", ".join(stream.codings), "; " + stream.fault if stream.fault else "")
+                exchange.origin, ", ".join(stream.codings), "; %s" % stream.cut if stream.cut else "")
         if stream.lacks and any(case.result.name == "Coding" for case in self.told.cases):
             packages = list(filter(None, map(PACKAGES.get, stream.lacks)))
             yield "%s: %s is not decoded here%s" % (
                 exchange.origin, ", ".join(stream.lacks), ": %s does it" % packages[0] if packages else "")
+
+    def of_unread(self, case):
+        """What is wrong in the body of what an element loads, where the engine did not read it; None where nothing is
+        known to be."""
+        if case.answer is None or case.answer.stream.is_opened:
+            return None
+        fault = None
+        if len(case.lengths) > 1:
+            fault = "the answer has %s, and both browsers make that a network error" % case.lengths_told
+        elif case.answer.is_ended:
+            fault = "it is cut" + case.but_length
+        elif case.is_no_gzip:
+            fault = "it is not gzip, as Content-Encoding says"
+        return "%s: its body was not read: %s" % (case.request.origin, fault) if fault else None
 
     def of_cookies(self):
         """What is to be said of the cookies that were given, or None."""
@@ -228,6 +243,7 @@ class Came(answers.Answer):
     def __init__(self, exchange):
         super().__init__(exchange.answer, link=exchange.link)
         self.stream = exchange.stream
+        self.is_ended = exchange.is_ended and exchange.is_short
 
     def framed(self, rest):
         return self.stream.body.joined() if self.stream.is_opened else super().framed(rest)

@@ -19,6 +19,7 @@ ALGORITHMS = ("sha256", "sha384", "sha512")
 CHUNK_LINE = re.compile(rb"([0-9a-fA-F]{1,16})[^\r\n]*\r\n")
 REDIRECTS = (301, 302, 303, 307, 308)
 MOST_REDIRECTS = 20
+GZIP = b"\x1f\x8b"
 # Schemes that a browser loads by itself, and this engine does not.
 LOCAL = ("data", "blob")
 SOCKETS = ("ws", "wss")
@@ -694,6 +695,110 @@ class Case:
         is_chunked = (self.get("Transfer-Encoding") or "").lower() == "chunked"
         return (self.link in ("hang", "reset") or len(self.answer.body()) < (self.answer.length() or 0)
                 or (is_chunked and not are_whole(self.answer.data, self.head.end)))
+
+    @property
+    def is_short(self):
+        """Whether it has a body that did not come whole, be that seen by the script or by the integrity check."""
+        return self.result.ending == "cut" or self.result.is_refused()
+
+    @property
+    def cut(self):
+        """What is wrong in a coded body that was decoded here (codings.py), or None."""
+        stream = getattr(self.answer, "stream", None)
+        return stream.cut if stream else None
+
+    @property
+    def wrong_coding(self):
+        """The coding that Content-Encoding says, and that the body is not, or None."""
+        return self.cut.coding if self.cut and self.cut.is_other else None
+
+    @property
+    def cut_coding(self):
+        """The coding that ends before its end, or None."""
+        return self.cut.coding if self.cut and not self.cut.is_other else None
+
+    @property
+    def coding(self):
+        return self.get("Content-Encoding") or ""
+
+    @property
+    def is_gzip(self):
+        """Whether the body, as it came, begins as gzip does, and Content-Encoding says another coding."""
+        return not self.says_gzip and self.answer.sent()[:2] == GZIP
+
+    @property
+    def says_gzip(self):
+        return self.coding.split(",")[-1].strip().lower() in ("gzip", "x-gzip")
+
+    @property
+    def is_no_gzip(self):
+        """Whether Content-Encoding says gzip, and the body, as it came, begins otherwise."""
+        return self.says_gzip and not GZIP.startswith(self.answer.sent()[:2])
+
+    @property
+    def but_gzip(self):
+        return "; its first bytes, 1f 8b, are those of gzip" if self.is_gzip else ""
+
+    @property
+    def right_coding(self):
+        return "let Content-Encoding say gzip" if self.is_gzip else "leave Content-Encoding out, or compress it"
+
+    @property
+    def if_gzip(self):
+        return "let Content-Encoding say gzip; or " if self.is_gzip else ""
+
+    @property
+    def unless_gzip(self):
+        return "" if self.is_gzip else "; if the body is of that coding, a browser needs no change"
+
+    @property
+    def lengths(self):
+        """The values of Content-Length that differ, where it is what ends the body."""
+        words = (self.get("Content-Length") or "").split(",") if self.get("Transfer-Encoding") is None else []
+        return list(dict.fromkeys(word.strip() for word in words))
+
+    @property
+    def lengths_told(self):
+        return "%s lengths, %s" % ("two" if len(self.lengths) == 2 else len(self.lengths),
+                                   " and ".join(word or "an empty one" for word in self.lengths))
+
+    @property
+    def wrong_length(self):
+        """Content-Length, where another number of bytes came; else None."""
+        length = answers.Answer.length(self.answer)
+        return None if self.get("Transfer-Encoding") is not None or length == self.count else length
+
+    @property
+    def count(self):
+        """How many bytes of the body came, as it was sent."""
+        return len(self.answer.data) - self.head.end
+
+    @property
+    def but_length(self):
+        """How many bytes came, and what Content-Length says, where that is another number; or an empty text."""
+        if self.wrong_length is None:
+            return ""
+        return ": %d byte%s came, and Content-Length says %d%s" % (
+            self.count, "" if self.count == 1 else "s", self.wrong_length,
+            ", which is the length of the text before it was compressed" if self.is_of_text else "")
+
+    @property
+    def is_of_text(self):
+        """Whether Content-Length is the length of the text before it was compressed."""
+        return self.cut is not None and self.wrong_length == len(self.answer.body())
+
+    @property
+    def whole_again(self):
+        """What to do that the body comes whole."""
+        return "let Content-Length say %d" % self.count if self.is_of_text else "send all of it, and its right length"
+
+    @property
+    def or_unfit(self):
+        return ", or does not fit it" if self.wrong_length is None else ""
+
+    @property
+    def and_length(self):
+        return "" if self.wrong_length is None else ", and its right length"
 
     @property
     def is_too_big(self):

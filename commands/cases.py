@@ -187,6 +187,7 @@ SEEN = {
     "seen/no-rule": scenario(fetch("/cart/"), [rule(path="/cart")], PAGE),
     "seen/opaque": scenario(fetch(mode="no-cors"), [rule()]),
     "seen/opaqueredirect": scenario(fetch("/go", redirect="manual"), JUMP, PAGE),
+    "body/two-lengths": answered(OK, ["Content-Length", "9"], ["Content-Length", "3"], body="abc"),
     "seen/body-cut": answered(OK, ["Content-Length", "9"], body="abc"),
     "seen/body-toobig": scenario(fetch(), [rule(200, [OK], "abc")], body_limit=2),
     "seen/exposed-list": answered(OK, ["Access-Control-Expose-Headers", "X-Page X-Total"], ["X-Total", "4"]),
@@ -199,7 +200,8 @@ REPORTED = {
     "policy/before-upgrade": scenario(load("image", "http://img.test/x"), headers=[[POLICY + "-Report-Only", "img-src https:"]]),
 }
 # what bin/ask alone comes to, by connections of its own: commands/check_ask reaches each
-DIRECT = {"link/tls-port", "link/certificate", "link/no-tls"}
+DIRECT = {"link/tls-port", "link/certificate", "link/no-tls", "body/not-its-coding", "body/coding-cut"}
+CODED = {"body/not-its-coding", "body/coding-cut"}
 
 # Over real connections: what a server answers (bytes), or a word for what else happens; see the check.
 NET = {

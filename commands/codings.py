@@ -19,7 +19,12 @@ ERRORS = (zlib.error,) if brotli is None else (zlib.error, brotli.error)
 
 
 class Cut(Exception):
-    """The body ends before its framing or its coding does, or does not fit it: in a sentence."""
+    """The body ends before its framing or its coding does, or does not fit it: in a sentence. `coding` is the coding
+    that it is about, where it is about one, and `is_other` says that the body is none of it."""
+
+    def __init__(self, sentence, coding=None, is_other=False):
+        super().__init__(sentence)
+        self.coding, self.is_other = coding, is_other
 
 
 class Broken(Exception):
@@ -109,32 +114,32 @@ def unchunked(pieces):
     raise Cut("its chunks are broken or end early")
 
 
-def decoded(pieces, own):
-    """What a decoder makes of pieces. What comes behind its end is read and left out, as browsers do it; an empty body
-    is one in any coding."""
-    is_empty = True
+def decoded(pieces, coding):
+    """What the decoder of a coding makes of pieces. What comes behind its end is read and left out, as browsers do it;
+    an empty body is one in any coding."""
+    own, is_empty = decoder(coding), True
     for piece in pieces:
         is_empty = is_empty and not piece
         try:
             yield from own.steps(piece) if not own.is_over() else ()
-        except ERRORS as error:
-            raise Cut("it does not fit its coding: %s" % error) from None
+        except ERRORS:
+            raise Cut("it is not %s, as Content-Encoding says" % coding, coding, True) from None
     if not is_empty and not own.is_over():
-        raise Cut("it ends before its coding does")
+        raise Cut("the %s body is cut" % coding, coding)
 
 
 class Stream:
     """The answer to a request as the engine reads it. `codings` are those of its body, in order; `lacks` those that
     nothing here decodes. `head` is that which the engine was fed in the place of what came, where it was, and `own`
-    what came; `body` is what was decoded, `is_opened` says that the engine asked for it, and `fault` what is wrong in
-    it."""
+    what came; `body` is what was decoded, `is_opened` says that the engine asked for it, and `cut` is what is wrong in
+    it, or None."""
 
     def __init__(self, receive, method):
         self.method = method
         self.codings, self.lacks = [], []
         self.head, self.own, self.body = None, None, answers.Pieces()
         self.is_opened = self.is_whole = False
-        self.fault = None
+        self.cut = None
         self.ahead = self.run(arriving(receive))
 
     def read(self):
@@ -176,13 +181,13 @@ class Stream:
         """The decoded body in chunks; without the last of them where it is cut."""
         self.is_opened = True
         for coding in reversed(self.codings):
-            pieces = decoded(pieces, decoder(coding))
+            pieces = decoded(pieces, coding)
         try:
             for piece in filter(None, pieces):
                 self.body.add(piece)
                 yield in_a_chunk(piece)
         except Cut as cut:
-            self.fault = str(cut)
+            self.cut = cut
             return
         self.is_whole = True
         yield LAST_CHUNK

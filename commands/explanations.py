@@ -306,6 +306,16 @@ ANSWERS = [
     Way("integrity/no-body", "22", lambda c: not c.has_body,
         "an answer with the status {c.status} to {c.request.method} has no body that could match", "",
         "{change}", BODY, changes.body_or_no_integrity),
+    Way("body/not-its-coding", "22 s", lambda c: c.is_short and c.wrong_coding is not None,
+        "the body is not {c.wrong_coding}, as Content-Encoding says{c.but_gzip}", "Content-Encoding",
+        "{c.right_coding}", "../ask.md"),
+    Way("body/coding-cut", "22 s", lambda c: c.is_short and c.cut_coding is not None,
+        "the {c.cut_coding} body is cut{c.but_length}", "Content-Encoding", "send all of it{c.and_length}",
+        "../ask.md"),
+    Way("body/two-lengths", "22 s", lambda c: c.is_short and len(c.lengths) > 1,
+        "the answer has {c.lengths_told}: both browsers make that a network error "
+        "(docs/BROWSERS.md#bytes-on-the-wire)", "Content-Length", "let one of them alone stand there, the right one",
+        "answers.md#the-body", changes.right_length),
     Way("integrity/incomplete", "22", lambda c: c.is_cut,
         "the body did not come whole", "Content-Length", "send all of it, and its right length", BODY, changes.right_length),
     Way("integrity/toobig", "22", lambda c: c.is_too_big,
@@ -457,6 +467,11 @@ ASKED = {
     "link/unknown-name": ("the name in `{c.route}` is not known here",
                           "mend the name; or say where its server is by --connect-to"),
     "link/refused": ("nothing listens at {c.route}", "start the server, or mend the port of the URL"),
+    "seen/body-cut": ("the body ends before the end that its head announced{c.or_unfit}{c.but_length}",
+                      "{c.whole_again}"),
+    "no-verdict/coded": ("no verdict: {c.coding} is not decoded here; a browser would read the body only if it is of "
+                         "that coding{c.but_gzip}; CORS, policies and types let it",
+                         "{c.if_gzip}for a verdict here send the body uncoded, and {change}{c.unless_gzip}"),
     "seen/body-toobig": ("the body is longer than the 1,048,576 bytes that are read here", "nothing: a page reads on"),
 }
 
@@ -464,7 +479,7 @@ TABLE = DIRECT + CORS_CHECK + PREFLIGHTS + BEFORE_SENDING + ANSWERS + LINKS + RE
 
 
 # Parts of conditions that are there for some fetches alone, and an answer that stands for that to a preflight too.
-SOMETIMES = re.compile(r"\{c\.(?:where|back_where|next_differs|but_known|why_scheme)\}")
+SOMETIMES = re.compile(r"\{c\.(?:where|back_where|next_differs|but_known|why_scheme|but_gzip|but_length)\}")
 
 
 def way_lines():

@@ -13,6 +13,8 @@ from fiorrudda import printed
 from commands import answers, codings
 
 PIECE = 65536
+SOON = 0.5  # seconds for what is still to come of a body that the engine does not read
+MOST_UNREAD = 1048576
 PORTS = {"http": 80, "https": 443}
 BAD_REQUEST = re.compile(rb"HTTP/1\.[01] 400[ \r\n]")
 TOLD_BY = re.compile(rb"plain HTTP|HTTPS|requires TLS")
@@ -28,6 +30,15 @@ class Exchange:
         self.kept = answers.Pieces()
         self.stream = codings.Stream(receive, method)
         self.failure, self.said = None, ""
+        self.is_ended = False
+
+    @property
+    def is_short(self):
+        """Whether less of the body came than its Content-Length says."""
+        head = answers.Answer(self.answer).head
+        length = codings.length_of(head.get("Content-Length") or "") if head else None
+        is_counted = length is not None and head.get("Transfer-Encoding") is None and head.status not in codings.NO_BODY
+        return is_counted and len(self.answer) - head.end < min(length, MOST_UNREAD)
 
     @property
     def answer(self):
@@ -121,6 +132,21 @@ class Wire:
         """The same, as the engine reads it."""
         return self.exchanges[-1].stream.read()
 
+    def look_on(self):
+        """Takes what comes soon of a body that the engine does not read, for what is to be said of it."""
+        exchange = self.exchanges[-1] if self.exchanges else None
+        until = time.monotonic() + min(SOON, max(self.deadline - time.monotonic(), 0))
+        try:
+            while self.socket and not exchange.failure and exchange.is_short and not exchange.is_ended:
+                self.socket.settimeout(max(until - time.monotonic(), 0.001))
+                piece = self.socket.recv(PIECE)
+                exchange.is_ended = not piece
+                exchange.kept.add(piece)
+                if time.monotonic() >= until:
+                    return
+        except OSError:
+            pass  # it comes later, or breaks: nothing is said of that
+
     def left(self):
         """How many seconds are left."""
         left = self.deadline - time.monotonic()
@@ -198,6 +224,9 @@ class Page:
             self.lines.append(printed.fault_line(fault, kind is not None))
             return
         self.act(fetch)
+        if kind is not None and isinstance(fetch.outcome, fiorrudda.Loaded):
+            self.wire.look_on()
+        self.wire.close()
         self.lines += printed.outcome_lines(self.as_it_came(fetch.outcome, request), kind is not None)
 
     def as_it_came(self, outcome, request):
@@ -230,7 +259,6 @@ class Page:
                 left = left[fetch.feed(left):]
             else:
                 left = self.read(fetch)
-        self.wire.close()
 
     def read(self, fetch):
         """The next bytes, for the fetch to read; or that they ended or failed."""

@@ -5,7 +5,7 @@ import base64
 import fiorrudda
 
 from commands import guards
-from commands.ask_words import KINDS
+from commands.ask_words import KINDS, Wrong
 from commands.scenario import joined, origin_of
 
 OWN = "a browser sends its own"
@@ -47,6 +47,7 @@ class Said:
         self.mode, self.load, self.crossorigin = given.mode, given.load, given.crossorigin
         self.pairs = pairs_of(given, self.body)
         self.values = {name.lower(): value for name, value in self.pairs}
+        self.refuse_preflight()
         self.is_copied = "sec-fetch-mode" in self.values or "Mozilla/" in self.values.get("user-agent", "")
         self.page = given.page or self.page_of_headers()
         self.read_metadata()
@@ -55,6 +56,13 @@ class Said:
         if given.insecure:
             self.note("-k changes nothing: a page cannot ask a server whose certificate is not trusted")
         self.note_left_out()
+
+    def refuse_preflight(self):
+        """A preflight is the browser's own request: no script sends it, and it says nothing of what the page reads."""
+        asked = self.values.get("access-control-request-method")
+        if asked and (self.method or "").upper() == "OPTIONS":
+            raise Wrong("this is a preflight, which a browser makes by itself: copy the request itself, the %s that it "
+                        "asks for" % asked)
 
     def note(self, sentence):
         if sentence not in self.notes:
@@ -118,6 +126,8 @@ class Said:
     def reason_against(self, word, value):
         if word in ADDED:
             return ADDED[word]
+        if word == "cache-control" and value.lower() == "no-cache" and "pragma" not in self.values:
+            return None  # a browser adds it together with Pragma alone, so a script has set it
         if self.is_copied and (word in COPIED or word == "accept" and not fiorrudda.is_safelisted(word, value)):
             return COPIED.get(word, OWN)
         if is_forbidden(word, value):
