@@ -785,7 +785,8 @@ class Case:
     @property
     def is_of_text(self):
         """Whether Content-Length is the length of the text before it was compressed."""
-        return self.cut is not None and self.wrong_length == len(self.answer.body())
+        stream = getattr(self.answer, "stream", None)
+        return stream is not None and stream.is_opened and self.wrong_length == len(self.answer.body())
 
     @property
     def whole_again(self):
@@ -795,6 +796,10 @@ class Case:
     @property
     def or_unfit(self):
         return ", or does not fit it" if self.wrong_length is None else ""
+
+    @property
+    def or_length(self):
+        return ", or let Content-Length say %d" % self.count if self.is_of_text else ""
 
     @property
     def and_length(self):

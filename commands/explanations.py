@@ -469,6 +469,9 @@ ASKED = {
     "link/refused": ("nothing listens at {c.route}", "start the server, or mend the port of the URL"),
     "seen/body-cut": ("the body ends before the end that its head announced{c.or_unfit}{c.but_length}",
                       "{c.whole_again}"),
+    "seen/body-hang": ("the head came, and the body did not end before the time limit{c.but_length}",
+                       "end it{c.or_length}; of a stream that has no end a page reads what comes, which is not done "
+                       "here"),
     "no-verdict/coded": ("no verdict: {c.coding} is not decoded here; a browser would read the body only if it is of "
                          "that coding{c.but_gzip}; CORS, policies and types let it",
                          "{c.if_gzip}for a verdict here send the body uncoded, and {change}{c.unless_gzip}"),
