@@ -203,6 +203,8 @@ class Answered:
             fault = "it is cut" + case.but_length
         elif case.is_no_gzip:
             fault = "it is not gzip, as Content-Encoding says"
+        elif case.coding and case.is_gzip:
+            fault = "Content-Encoding says %s%s" % (case.coding, case.but_gzip)
         return "%s: its body was not read: %s" % (case.request.origin, fault) if fault else None
 
     def of_cookies(self):
