@@ -252,6 +252,13 @@ static void seen(void) {
     IS(OK, fiorrudda_filtered(&made, &client, &request, &headers, 201, FIORRUDDA_TAINTING_OPAQUE, &status));
     HOLDS(status == 0);
     IS(NO, fiorrudda_name_at(&made, 0, room, sizeof room, &len));
+    IS(OK, fiorrudda_request_choose(&request, FIORRUDDA_CHOOSE_REDIRECT, FIORRUDDA_REDIRECT_MANUAL));
+    status = 77;
+    IS(OK, fiorrudda_filtered(&made, &client, &request, &headers, 302, FIORRUDDA_TAINTING_BASIC, &status));
+    HOLDS(status == 0);
+    IS(NO, fiorrudda_name_at(&made, 0, room, sizeof room, &len));
+    IS(OK, fiorrudda_filtered(&made, &client, &request, &headers, 201, FIORRUDDA_TAINTING_BASIC, &status));
+    HOLDS(status == 201);
     status = 77;
     void *was = made.at;
     IS(NO_SUCH_NUMBER, fiorrudda_filtered(&made, &client, &request, &headers, 201, 3, &status));

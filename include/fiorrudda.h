@@ -31,7 +31,8 @@ extern "C" {
 #define FIORRUDDA_WRONG_HANDLE 2u
 
 // Memory was refused. What handles hold is as it was, except that a fetch which was told something is gone, and that
-// a book which a fetch asked may have done what it was asked: then its reply is told. No other answer is written.
+// a book which a fetch asked may have done what it was asked: then its reply is told. No other answer is written,
+// except that `fiorrudda_feed` tells that no byte was taken.
 #define FIORRUDDA_OUT_OF_MEMORY 3u
 
 // The room for the answer is too short. Nothing is written but how many bytes the answer has.
@@ -52,7 +53,7 @@ extern "C" {
 // A time is 2^48 seconds or more.
 #define FIORRUDDA_TOO_LATE 9u
 
-// What came is not what the fetch awaits. Nothing is changed.
+// What came is not what the fetch awaits. What handles hold is as it was.
 #define FIORRUDDA_NOT_AWAITED 10u
 
 // No request can be made of what is asked for; `fiorrudda_fetch` tells why.
@@ -822,8 +823,8 @@ uint32_t fiorrudda_refused_name(fiorrudda_handle *client, fiorrudda_handle *requ
 // Makes in a handle the header list that a page sees of an answer to its request, and tells in `seen` the status that
 // it sees: those of the filtered response by one of the numbers FIORRUDDA_TAINTING_.. (Fetch, section 2.2.6). Basic
 // hides Set-Cookie; of CORS the safelisted and the exposed headers are seen, by the request's credentials mode; of
-// opaque nothing, and its status is 0, as that of an opaque-redirect filtered response. What the handle held is
-// freed.
+// opaque nothing, and its status is 0. So is it with a redirect in redirect mode manual, by any of the numbers: it is
+// an opaque-redirect filtered response. What the handle held is freed.
 //
 // FIORRUDDA_OK; FIORRUDDA_NO_SUCH_NUMBER; FIORRUDDA_WRONG_HANDLE, of the client, the request or the header list;
 // FIORRUDDA_NO_REQUEST where none can be made of what is asked for; FIORRUDDA_OUT_OF_MEMORY. Except for FIORRUDDA_OK
@@ -868,8 +869,8 @@ uint32_t fiorrudda_note_host(fiorrudda_handle *book, const uint8_t *host, size_t
 // be asked by https. The host is the domain of a URL, in lower case. Threads that share the book hold a lock of their
 // own around the call, as around each that is given the book.
 //
-// FIORRUDDA_OK where it is; FIORRUDDA_NO, which alone leaves an http URL as it is; FIORRUDDA_WRONG_HANDLE;
-// FIORRUDDA_NOT_A_HOST, as of `fiorrudda_note_host`; FIORRUDDA_TOO_LATE; FIORRUDDA_OUT_OF_MEMORY.
+// FIORRUDDA_OK where it is; FIORRUDDA_NO, which leaves an http URL as it is, and so does FIORRUDDA_NOT_A_HOST, which
+// is told as by `fiorrudda_note_host`; FIORRUDDA_WRONG_HANDLE; FIORRUDDA_TOO_LATE; FIORRUDDA_OUT_OF_MEMORY.
 uint32_t fiorrudda_known_host(fiorrudda_handle *book, const uint8_t *host, size_t host_len, uint64_t now);
 
 // Writes the text of a book, which `fiorrudda_book_of_text` reads back as the same book, so that what it knows lasts
@@ -932,7 +933,8 @@ uint32_t fiorrudda_act(fiorrudda_handle *fetch, uint32_t *act);
 // FIORRUDDA_OK; FIORRUDDA_NOT_AWAITED where the act asks no book, and then the fetch stands where it stood and the
 // book is as it was; FIORRUDDA_WRONG_HANDLE; FIORRUDDA_OUT_OF_MEMORY, and then the fetch is gone: its act is
 // FIORRUDDA_ACT_GONE. Where the book did what it was asked before memory was refused, the reply is told; else the
-// book is as it was, and nothing is written to `reply`. So is it with the other codes.
+// book is as it was, and nothing is written to `reply`, so set it to 0 before the call. So is it with the other
+// codes.
 uint32_t fiorrudda_ask(fiorrudda_handle *fetch, fiorrudda_handle *book, uint32_t *reply);
 
 // Writes all bytes of the request that a fetch sends (RFC 9112, section 3) at the beginning of `room`, and tells in

@@ -15,7 +15,7 @@ use Rattle.std.specs.List.{list_all, list_any, position_or_len, slice_get}
 use Rattle.book_calls.proofs.SoloLemmas.{reply-kind}
 use Rattle.value_lemmas.proofs.Lists.{position_or_len-no, position_or_len-yes}
 use Rattle.value_lemmas.proofs.Bytes.{bytes_eq-self}
-use Rattle.value_text.specs.declared.memory.OutOfMemory.{OutOfMemory}
+use Rattle.value_bytes.specs.declared.memory.OutOfMemory.{OutOfMemory}
 use Rattle.book_calls.specs.declared.book.Book.{Book}
 use Rattle.book_calls.specs.declared.entry.Entry.{Entry}
 use Rattle.book_calls.specs.declared.op.Op.{Op}

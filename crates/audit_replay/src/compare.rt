@@ -9,7 +9,7 @@ use book_calls::History;
 use play_text::{Failure, write_play};
 use script_events::Transcripts;
 use std::alloc::Global;
-use value_text::OutOfMemory;
+use value_bytes::OutOfMemory;
 
 /// Where the text of a play differs from another text: the first offset at which they have another byte, or at which
 /// one of them ends and the other does not. `None` exactly where they are equal. The text of the play is not built

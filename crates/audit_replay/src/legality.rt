@@ -6,7 +6,7 @@ ghost use Rattle.audit_replay.specs.Legality as spec;
 
 use book_calls::{Book, Entry, Reply};
 use std::alloc::Global;
-use value_text::OutOfMemory;
+use value_bytes::OutOfMemory;
 
 // Whether an entry is the one of this turn, with this reply.
 fn is_right(entry: &Entry, turn: u64, reply: Reply) -> bool

@@ -5,7 +5,7 @@ ghost use Rattle.audit_replay.specs.Private.Ops as spec;
 use book_calls::Op;
 use book_hosts::Sts;
 use book_preflights::{Lesson, Names, Question};
-use value_text::Bytes;
+use value_bytes::Bytes;
 
 fn same(one: &Bytes, other: &Bytes) -> bool
     ensures { result ≡ bytes_eq one.now other.now }

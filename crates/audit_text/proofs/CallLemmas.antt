@@ -11,7 +11,7 @@ use Rattle.std.specs.Prelude.{◌==◌, ◌&&◌, not, bytes_eq, decimal, if◌t
 use Rattle.std.specs.List.{join_with_byte, list_all}
 use Rattle.value_lemmas.proofs.Options.{if-parts, option_and_then-some, option_map-some}
 use Rattle.value_text.specs.Tokens.{is_token}
-use Rattle.value_text.specs.declared.memory.OutOfMemory.{OutOfMemory}
+use Rattle.value_bytes.specs.declared.memory.OutOfMemory.{OutOfMemory}
 use Rattle.value_decimal.specs.Decimals.{number_up_to}
 use Rattle.value_decimal.proofs.DecimalLemmas.{lacks, number-lacks, number-read, number-writes}
 use Rattle.book_calls.specs.declared.entry.Entry.{Entry}

@@ -21,7 +21,7 @@ use Rattle.audit_text.specs.Private.Cuts.{AreLines, HasRead, HoldsLines, IsCut, 
 use Rattle.audit_text.specs.Private.Cuts.{LacksHeading, Passes}
 use Rattle.audit_text.specs.declared.history.Reading.{Reading}
 use Rattle.audit_text.specs.declared.history.Reading.TheVariants.{Entries, Fault}
-use Rattle.value_text.specs.declared.memory.OutOfMemory.{OutOfMemory}
+use Rattle.value_bytes.specs.declared.memory.OutOfMemory.{OutOfMemory}
 use Rattle.audit_text.proofs.ListLemmas.{lacks-all}
 use Rattle.value_decimal.proofs.DecimalLemmas.{lacks}
 

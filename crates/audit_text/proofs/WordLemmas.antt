@@ -1,6 +1,7 @@
 -- Words are read as what they write: times, replies, credentials modes and subdomains.
 use Rattle.std.proofs.Common.{◌≡◌, ◌<◌, ◌^◌, ℕ, Bool, true, false, List, [], ◌∷◌, ◌++◌, length, get_or, codes, refl}
-use Rattle.std.proofs.Common.{ap, sym, ◌∙◌, arith, eq-eqb, length-append, length-take, Option, Some, None, ◌⊎◌, inl, inr}
+use Rattle.std.proofs.Common.{ap, sym, ◌∙◌, arith, eq-eqb, length-append, length-take, Option, Some, None, ◌⊎◌, inl}
+use Rattle.std.proofs.Common.{inr}
 use Rattle.std.proofs.lemmas.Bool.{and_parts}
 use Rattle.std.proofs.lemmas.Bool.Decides.{Decides-eqb, nat_tests}
 use Rattle.std.proofs.lemmas.Grind.{common_steps}

@@ -9,8 +9,8 @@ use book_calls::{Op, Reply};
 use book_hosts::Sts;
 use book_preflights::{Lesson, Question};
 use std::alloc::Global;
+use value_bytes::{Bytes, OutOfMemory};
 use value_decimal::number_up_to;
-use value_text::{Bytes, OutOfMemory};
 
 // The ages of known hosts are below 2^48.
 const LONGEST_NOTE: u64 = 281_474_976_710_655;

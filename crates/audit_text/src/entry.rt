@@ -6,9 +6,10 @@ ghost use Rattle.audit_text.specs.Private.Reading as spec;
 use crate::calls::call_in;
 use book_calls::Entry;
 use std::alloc::Global;
+use value_bytes::OutOfMemory;
 use value_decimal::number_up_to;
 use value_places::Shared;
-use value_text::{OutOfMemory, parts_between};
+use value_text::parts_between;
 
 // The words of an entry's line.
 fn entry_in(alloc: Global, words: &[&[u8]]) -> Result<Option<Entry>, OutOfMemory>

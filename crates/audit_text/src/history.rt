@@ -8,7 +8,8 @@ ghost use Rattle.audit_text.specs.Private.Cuts as spec;
 use crate::entry::read_entry;
 use book_calls::History;
 use std::alloc::Global;
-use value_text::{OutOfMemory, position_of};
+use value_bytes::OutOfMemory;
+use value_text::position_of;
 
 // The last line of a play.
 const DONE: &[u8] = b"done\n";

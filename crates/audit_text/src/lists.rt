@@ -6,7 +6,8 @@ ghost use Rattle.audit_text.specs.Private.Reading as spec;
 
 use book_preflights::Names;
 use std::alloc::Global;
-use value_text::{Bytes, OutOfMemory, is_token, parts_between};
+use value_bytes::{Bytes, OutOfMemory};
+use value_text::{is_token, parts_between};
 
 // The method that is asked for, or none.
 pub(crate) fn method_in(alloc: Global, word: &[u8]) -> Result<Option<Option<Bytes>>, OutOfMemory>

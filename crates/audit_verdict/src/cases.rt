@@ -19,7 +19,7 @@ use script_reading::read_scenario;
 use script_scenarios::Scenario;
 use std::alloc::Global;
 use std::snapshot::Snapshot;
-use value_text::OutOfMemory;
+use value_bytes::OutOfMemory;
 
 /// Audits a text that claims to be the printed play of a scenario over its own servers, without playing it: no thread
 /// is made, and no shared book is asked. The verdict is the first that applies: the scenario is refused; the text has

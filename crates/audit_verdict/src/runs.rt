@@ -14,7 +14,7 @@ use script_events::{Ending, Transcript, Transcripts};
 use script_scenarios::Scenario;
 use std::alloc::Global;
 use std::snapshot::Snapshot;
-use value_text::OutOfMemory;
+use value_bytes::OutOfMemory;
 
 /// What the runs of all documents come to.
 #[derive(Drop)]

@@ -4,7 +4,7 @@ use crate::words::{count_in, numbered};
 use book_preflights::{Lesson, Precache, Question};
 use rows_shell::{Failed, Row};
 use std::alloc::Global;
-use value_text::BytesList;
+use value_bytes::BytesList;
 
 /// How long a lesson holds, in seconds.
 const AGE: u64 = 7_200;

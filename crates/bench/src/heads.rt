@@ -5,9 +5,9 @@ use crate::words::{count_in, numbered};
 use policy_filter::{filtered, hide};
 use rows_shell::{Failed, Row, named, request_of};
 use std::alloc::Global;
+use value_bytes::Bytes;
 use value_headers::{HeaderList, PackedHeaders};
 use value_requests::{Head, Hop, Request};
-use value_text::Bytes;
 
 /// The request that the head answers.
 const REQUEST: &[u8] = b"url=https://b.test/ from=https://a.test/ tainting=cors";

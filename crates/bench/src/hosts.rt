@@ -3,7 +3,7 @@ use crate::words::{count_in, numbered};
 use book_hosts::{HstsList, Sts};
 use rows_shell::{Failed, Row};
 use std::alloc::Global;
-use value_text::BytesList;
+use value_bytes::BytesList;
 
 /// What each host says.
 const STS: Sts = Sts {

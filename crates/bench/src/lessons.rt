@@ -4,7 +4,7 @@ ghost use Rattle.std.specs.Prelude.{◌≡◌, IfOk};
 use book_preflights::{Lesson, Names, Question};
 use rows_shell::Failed;
 use std::alloc::Global;
-use value_text::{Bytes, BytesList};
+use value_bytes::{Bytes, BytesList};
 
 /// What a preflight of http://a.test teaches of http://b.test/ under this key.
 pub(crate) fn lesson(

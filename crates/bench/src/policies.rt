@@ -6,8 +6,8 @@ use policy_csp::Compiled;
 use policy_csp_text::{Policies, parse_policies};
 use rows_shell::{Failed, Row, Shown, request_of};
 use std::alloc::Global;
+use value_bytes::Bytes;
 use value_requests::Request;
-use value_text::Bytes;
 
 // A path of so many bytes.
 fn path_of(alloc: Global, length: u32) -> Result<Bytes, Failed> {

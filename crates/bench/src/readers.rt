@@ -5,8 +5,8 @@ use crate::words::{count_in, some_in};
 use link_http1::{BodyReader, BodyStep, Framing, HeadReader, HeadStep};
 use rows_shell::{Failed, Row, Shown, named};
 use std::alloc::Global;
+use value_bytes::Bytes;
 use value_requests::BodyEnd;
-use value_text::Bytes;
 
 /// How many bytes a body has.
 const BODY: u32 = 262_144;

@@ -3,7 +3,7 @@ ghost use Rattle.std.specs.Prelude.{◌<◌, IfOk};
 
 use rows_shell::{Failed, Row, Shown, number};
 use std::alloc::Global;
-use value_text::Bytes;
+use value_bytes::Bytes;
 
 /// The words as one text, with a space after each.
 pub(crate) fn words_of(alloc: Global, words: &[String]) -> Result<Bytes, Failed> {

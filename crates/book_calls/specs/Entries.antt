@@ -39,6 +39,11 @@ abbrev pub HasTurnsFrom : ℕ → List Entry → Type 0
 HasTurnsFrom turn [] = Unit {0}
 HasTurnsFrom turn (entry ∷ history) = (entry.turn ≡ turn) × HasTurnsFrom (turn + 1) history
 
+-- the entries are in order of their documents, from this one on
+abbrev pub AreInOrderFrom : ℕ → List Entry → Type 0
+AreInOrderFrom number [] = Unit {0}
+AreInOrderFrom number (entry ∷ entries) = (number ≤ entry.document) × AreInOrderFrom entry.document entries
+
 -- the history begins with what was seen of it
 abbrev pub StartsWith : List Entry → List Entry → Type 0
 StartsWith history seen = (rest : List Entry) × (history ≡ seen ++ rest)

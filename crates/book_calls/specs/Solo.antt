@@ -5,8 +5,8 @@ use Rattle.book_calls.specs.Accounts.{Account}
 use Rattle.book_calls.specs.declared.book.Book.{Book}
 use Rattle.book_calls.specs.declared.entry.Entry.{Entry}
 
--- Its pass: the document, the book that the pass was opened with, the entries that stood in the history then, those that
--- it has added, and how many calls were made on it.
+-- Its pass: the document, the book that the pass was opened with, the entries that stood in the history then, those
+-- that it has added, and how many calls were made on it.
 pub record Solo : Type 0 where
   pub document : ℕ
   pub opening : Book

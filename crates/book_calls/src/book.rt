@@ -7,7 +7,7 @@ use crate::op::{Op, Reply};
 use book_hosts::HstsList;
 use book_preflights::Precache;
 use std::alloc::Global;
-use value_text::OutOfMemory;
+use value_bytes::OutOfMemory;
 
 /// The known HSTS hosts and the CORS-preflight cache.
 #[derive(Drop)]

@@ -4,7 +4,7 @@ ghost use Rattle.book_calls.specs.Ops.{InRange, is_in_range};
 
 use book_hosts::Sts;
 use book_preflights::{Lesson, Question};
-use value_text::Bytes;
+use value_bytes::Bytes;
 
 /// One operation on the book. The last number of each is its time, in seconds.
 #[derive(Drop)]

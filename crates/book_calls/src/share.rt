@@ -6,8 +6,8 @@ ghost use Rattle.book_calls.specs.Ops.{InRange, is_answer, is_question};
 
 use crate::op::{Op, Reply};
 use std::alloc::Global;
+use value_bytes::OutOfMemory;
 use value_places::Shared;
-use value_text::OutOfMemory;
 
 /// A book that is shared by passes. Each document has one pass, and does its operations through it.
 pub trait Share {

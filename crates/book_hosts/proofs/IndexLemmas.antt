@@ -21,7 +21,8 @@ use Rattle.book_hosts.specs.declared.hosts.KnownHost.{KnownHost}
 use Rattle.book_hosts.specs.declared.index.Term.{Term}
 use Rattle.book_hosts.proofs.FirstLemmas.{each-term, end_order, first-goes, term-holds}
 use Rattle.book_hosts.proofs.OrderLemmas.{bytes-order, bytes-order-back, text-equal}
-use Rattle.book_hosts.proofs.SortedLemmas.{ComeAfter, insert-with, insert_known, remove-without, remove_known, term_from}
+use Rattle.book_hosts.proofs.SortedLemmas.{ComeAfter, insert-with, insert_known, remove-without, remove_known}
+use Rattle.book_hosts.proofs.SortedLemmas.{term_from}
 
 -- ---- tests of ends
 

@@ -9,7 +9,8 @@ use Rattle.std.specs.Str.{bytes_eq}
 use Rattle.std.specs.declared.cmp.Ordering.{Ordering}
 use Rattle.std.specs.declared.cmp.Ordering.TheVariants.{Equal, Greater, Less}
 use Rattle.value_lemmas.proofs.Bytes.{bytes_eq-true}
-use Rattle.book_hosts.specs.Hosts.{AreHosts, holds, known_host, noted, with_host, with_room, without, without_first_to_end}
+use Rattle.book_hosts.specs.Hosts.{AreHosts, holds, known_host, noted, with_host, with_room, without}
+use Rattle.book_hosts.specs.Hosts.{without_first_to_end}
 use Rattle.value_text.specs.Orders.{text_cmp}
 use Rattle.book_hosts.specs.Private.Terms.{IsLeaving, term_in}
 use Rattle.book_hosts.specs.declared.hosts.KnownHost.{KnownHost}

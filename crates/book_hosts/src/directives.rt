@@ -7,9 +7,8 @@ ghost use Rattle.book_hosts.specs.Reading.{unquoted, value_in, with_more};
 
 use crate::pieces::piece_end;
 use std::alloc::Global;
-use value_text::{
-    Bytes, Items, OutOfMemory, before_byte, in_lower_case, is_token, position_of, trim_tab_or_space,
-};
+use value_bytes::{Bytes, Items, OutOfMemory, in_lower_case};
+use value_text::{before_byte, is_token, position_of, trim_tab_or_space};
 
 const TAB_OR_SPACE: &[u8] = b"\t ";
 

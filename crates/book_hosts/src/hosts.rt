@@ -7,7 +7,7 @@ use crate::index::{Index, Term};
 use crate::sts::Sts;
 use std::alloc::Global;
 use std::marker::Model;
-use value_text::{Bytes, OutOfMemory};
+use value_bytes::{Bytes, OutOfMemory};
 
 /// How many hosts a list holds at most (profile).
 const MOST_HOSTS: usize = 4096;

@@ -11,7 +11,7 @@ use crate::walk::{are_before, copies, is_under};
 use std::alloc::Global;
 use std::collections::{BTreeMap, BTreeSet};
 use std::marker::Model;
-use value_text::{Bytes, OutOfMemory};
+use value_bytes::{Bytes, OutOfMemory};
 
 /// With or without subdomains, and until when a host is known.
 #[derive(Clone, Copy)]

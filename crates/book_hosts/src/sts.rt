@@ -6,7 +6,8 @@ ghost use Rattle.book_hosts.specs.Reading.{sts_in};
 use crate::directives::{Directive, directives_of};
 use std::alloc::Global;
 use std::collections::BTreeSet;
-use value_text::{OutOfMemory, parse_digits};
+use value_bytes::OutOfMemory;
+use value_text::parse_digits;
 
 /// The greatest max-age in seconds; a greater one counts as this (profile).
 const GREATEST_AGE: u64 = 4_294_967_295;

@@ -11,7 +11,7 @@ use crate::hosts::KnownHost;
 use crate::index::Term;
 use std::alloc::Global;
 use std::collections::BTreeMap;
-use value_text::{Bytes, OutOfMemory};
+use value_bytes::{Bytes, OutOfMemory};
 
 // Whether each host comes before this one in the order of bytes: the last does.
 pub(crate) fn are_before(terms: &BTreeMap<Vec<u8>, Term>, host: &[u8]) -> bool

@@ -1,7 +1,7 @@
 -- One method or header name learnt.
 use Rattle.std.proofs.Common.{◌≡◌, ◌++◌, ◌∷◌, [], ℕ, List, Bool, false, cond, map, sym, ap, ◌∙◌, Result, Ok, Err, OnOk}
 use Rattle.std.specs.List.{list_any}
-use Rattle.value_text.specs.declared.memory.OutOfMemory.{OutOfMemory}
+use Rattle.value_bytes.specs.declared.memory.OutOfMemory.{OutOfMemory}
 use Rattle.book_preflights.specs.declared.entry.Allowed.{Allowed}
 use Rattle.book_preflights.specs.declared.lessons.Mark.{Mark}
 use Rattle.book_preflights.specs.declared.question.Lesson.{Lesson}

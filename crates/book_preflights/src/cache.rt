@@ -12,7 +12,7 @@ use crate::walk::{add, copies, none_after};
 use std::alloc::Global;
 use std::collections::BTreeMap;
 use std::marker::Model;
-use value_text::OutOfMemory;
+use value_bytes::OutOfMemory;
 
 /// The CORS-preflight cache, seen as the list of all its entries: sorted by the bytes of their keys,
 /// those of one key in the order of their creation (Fetch, "CORS-preflight cache").

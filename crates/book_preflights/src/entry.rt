@@ -4,7 +4,8 @@ ghost use Rattle.std.specs.Str.{bytes_eq};
 ghost use Rattle.book_preflights.specs.Entries.{allows, allows_method, allows_name, is_alive, is_entry_match};
 
 use std::alloc::Global;
-use value_text::{Bytes, OutOfMemory, eq_fold, is_non_wildcard_name, is_wildcard};
+use value_bytes::{Bytes, OutOfMemory};
+use value_text::{eq_fold, is_non_wildcard_name, is_wildcard};
 
 /// What one entry allows: a method or a header name. Either may be `*`.
 #[derive(Drop)]

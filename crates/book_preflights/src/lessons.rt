@@ -11,7 +11,7 @@ use crate::partition::{MOST, is_of};
 use crate::question::Lesson;
 use std::alloc::Global;
 use std::marker::Model;
-use value_text::{Bytes, OutOfMemory};
+use value_bytes::{Bytes, OutOfMemory};
 
 /// The origin and the URL of an entry.
 #[derive(Drop)]

@@ -4,7 +4,7 @@ ghost use Rattle.std.specs.Prelude.{◌≡◌, ◌==◌, ◌<◌, [], length, sl
 use crate::packed::Packed;
 use std::alloc::Global;
 use std::marker::Model;
-use value_text::{Bytes, OutOfMemory};
+use value_bytes::{Bytes, OutOfMemory};
 
 /// A list of texts that is kept for long, seen as a list of lists of bytes. A text takes its bytes and four more, and
 /// the empty list no memory. No list of over 2^32 - 1 bytes is made.

@@ -5,7 +5,7 @@ ghost use Rattle.book_preflights.specs.Private.Packs.{AreEnds, texts_of};
 
 use std::alloc::Global;
 use std::marker::Model;
-use value_text::{Bytes, OutOfMemory};
+use value_bytes::{Bytes, OutOfMemory};
 
 /// Texts that stand one behind the other, seen as the list of them.
 #[derive(Drop)]

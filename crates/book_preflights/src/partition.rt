@@ -11,7 +11,7 @@ use crate::lessons::taught;
 use crate::question::{Lesson, Question};
 use std::alloc::Global;
 use std::marker::Model;
-use value_text::OutOfMemory;
+use value_bytes::OutOfMemory;
 
 /// How many entries a key holds at most.
 pub(crate) const MOST: usize = 64;

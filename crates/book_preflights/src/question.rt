@@ -3,7 +3,7 @@ ghost use Rattle.std.specs.Prelude.{◌≡◌, IfOk};
 
 use crate::names::Names;
 use std::alloc::Global;
-use value_text::{Bytes, OutOfMemory, copy_of};
+use value_bytes::{Bytes, OutOfMemory, copy_of};
 
 /// What a request would need of the cache: an entry for its method, where one is named, and for each
 /// of the header names (Fetch, "HTTP fetch", the check before a CORS-preflight fetch).

@@ -9,7 +9,7 @@ use crate::entry::{CacheEntry, Keyed};
 use crate::partition::Partition;
 use std::alloc::Global;
 use std::collections::BTreeMap;
-use value_text::{Bytes, OutOfMemory};
+use value_bytes::{Bytes, OutOfMemory};
 
 // Whether no key comes after this one: the last that has entries does not. Keys without entries that stand behind
 // that one go.

@@ -1,5 +1,6 @@
 -- What is written is read back, line by line.
-use Rattle.std.proofs.Common.{◌≡◌, ◌≤◌, ◌<◌, ◌+◌, ◌-◌, ℕ, zero, suc, Bool, true, false, List, [], ◌∷◌, ◌++◌, length, refl, ap}
+use Rattle.std.proofs.Common.{◌≡◌, ◌≤◌, ◌<◌, ◌+◌, ◌-◌, ℕ, zero, suc, Bool, true, false, List, [], ◌∷◌, ◌++◌, length}
+use Rattle.std.proofs.Common.{refl, ap}
 use Rattle.std.proofs.Common.{sym, subst, ◌∙◌, arith, Option, Some, None, ◌⊎◌, inl, Result, Ok, Err, append_assoc}
 use Rattle.std.proofs.lemmas.List.{append-nil}
 use Rattle.std.specs.Prelude.{◌==◌, if◌then◌else◌}
@@ -8,7 +9,8 @@ use Rattle.book_hosts.specs.declared.hosts.KnownHost.{KnownHost}
 use Rattle.book_preflights.specs.declared.entry.Keyed.{Keyed}
 use Rattle.book_preflights.specs.declared.entry.Allowed.{Allowed}
 use Rattle.book_preflights.specs.declared.entry.Allowed.TheVariants.{Method, HeaderName}
-use Rattle.book_text.specs.Reading.{Numbers, Texts, allowed_of, entry_at, entry_of, host_at, host_of, lines_from, next_line}
+use Rattle.book_text.specs.Reading.{Numbers, Texts, allowed_of, entry_at, entry_of, host_at, host_of, lines_from}
+use Rattle.book_text.specs.Reading.{next_line}
 use Rattle.book_text.specs.Texts.{FitsEntry, FitsHost, entry_line, flag, greatest, host_line, is_name, item}
 use Rattle.book_text.specs.Private.Steps.{Fails}
 use Rattle.book_text.specs.declared.refusal.ReadError.{ReadError}

@@ -6,7 +6,7 @@ use crate::fields::{number_at, text_at};
 use book_hosts::KnownHost;
 use book_preflights::{Allowed, CacheEntry, Keyed};
 use std::alloc::Global;
-use value_text::{Bytes, OutOfMemory};
+use value_bytes::{Bytes, OutOfMemory};
 
 // The numbers of an entry: 1 for yes in the last two.
 #[derive(Clone, Copy)]

@@ -2,7 +2,7 @@
 ghost use Rattle.std.specs.Prelude.{◌≡◌};
 ghost use Rattle.book_text.specs.declared.refusal.ReadError.TheVariants.{Memory};
 
-use value_text::OutOfMemory;
+use value_bytes::OutOfMemory;
 
 /// Why a text is not that of a book.
 #[derive(Clone, Copy, Debug, PartialEq, Eq)]

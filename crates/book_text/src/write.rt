@@ -12,7 +12,7 @@ use book_hosts::KnownHost;
 use book_preflights::{Allowed, Keyed};
 use itoa::Buffer;
 use std::alloc::Global;
-use value_text::{Bytes, OutOfMemory};
+use value_bytes::{Bytes, OutOfMemory};
 
 const HEADING: &[u8] = b"fiorrudda book 1\n";
 

@@ -10,7 +10,7 @@ use Rattle.book_calls.specs.declared.book.Book.{Book}
 use Rattle.book_calls.specs.declared.entry.Entry.{Entry}
 use Rattle.book_calls.specs.declared.op.Op.{Op}
 use Rattle.book_calls.specs.declared.op.Reply.{Reply}
-use Rattle.value_text.specs.declared.memory.OutOfMemory.{OutOfMemory}
+use Rattle.value_bytes.specs.declared.memory.OutOfMemory.{OutOfMemory}
 use Rattle.book_calls.specs.Entries.{entry, book_after, entries_of, Legal, AllTurnsBelow, StartsWith, Extends}
 use Rattle.std.proofs.lemmas.List.{append-nil}
 use Rattle.book_calls.proofs.EntryLemmas.{book_after-append, entries_of-snoc_same, LegalFrom-snoc}

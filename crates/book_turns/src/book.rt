@@ -16,8 +16,8 @@ use std::alloc::Global;
 use std::hint::spin_loop;
 use std::snapshot::Snapshot;
 use std::sync::{Mutex, MutexGuard, Wait};
+use value_bytes::OutOfMemory;
 use value_places::Shared;
-use value_text::OutOfMemory;
 
 /// A book that threads share. A call waits for its turn; whose is next, no clause says.
 #[derive(Drop)]

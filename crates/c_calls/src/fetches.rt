@@ -15,8 +15,8 @@ use c_rules::Refusal;
 use fetch_acts::Act;
 use fetch_session::Session;
 use std::alloc::Global;
+use value_bytes::Bytes;
 use value_requests::TypeFault;
-use value_text::Bytes;
 
 /// What a fetch does next: nothing, it is over.
 pub const ACT_OVER: u32 = 0;

@@ -27,9 +27,9 @@ pub extern "C" fn fiorrudda_book(alloc: Global, book: &mut Handle) -> u32
 /// time in seconds since any fixed moment. The host is the domain of a URL, in lower case. The field came over https.
 /// Threads that share the book hold a lock of their own around the call, as around each that is given the book.
 ///
-/// `OK` where the field says something; `NO` where it is to be ignored; `WRONG_HANDLE`; `NOT_A_HOST` of an IP address, a
-/// localhost name, a capital letter, or what is no domain; `TOO_LATE`; `OUT_OF_MEMORY`.
-/// The book is as it was but for `OK`.
+/// `OK` where the field says something; `NO` where it is to be ignored; `WRONG_HANDLE`; `NOT_A_HOST` of an IP address,
+/// a localhost name, a capital letter, or what is no domain; `TOO_LATE`; `OUT_OF_MEMORY`. The book is as it was but for
+/// `OK`.
 #[unsafe(no_mangle)]
 pub extern "C" fn fiorrudda_note_host(
     alloc: Global,
@@ -54,8 +54,8 @@ pub extern "C" fn fiorrudda_note_host(
 /// be asked by https. The host is the domain of a URL, in lower case. Threads that share the book hold a lock of their
 /// own around the call, as around each that is given the book.
 ///
-/// `OK` where it is; `NO`, which alone leaves an http URL as it is; `WRONG_HANDLE`; `NOT_A_HOST`, as of
-/// `fiorrudda_note_host`; `TOO_LATE`; `OUT_OF_MEMORY`.
+/// `OK` where it is; `NO`, which leaves an http URL as it is, and so does `NOT_A_HOST`, which is told as by
+/// `fiorrudda_note_host`; `WRONG_HANDLE`; `TOO_LATE`; `OUT_OF_MEMORY`.
 #[unsafe(no_mangle)]
 pub extern "C" fn fiorrudda_known_host(
     alloc: Global,

@@ -152,8 +152,8 @@ fn tell_reply(answer: Option<Reply>, reply: &mut u32)
 ///
 /// `OK`; `NOT_AWAITED` where the act asks no book, and then the fetch stands where it stood and the book is as it was;
 /// `WRONG_HANDLE`; `OUT_OF_MEMORY`, and then the fetch is gone: its act is `ACT_GONE`. Where the book did what it was
-/// asked before memory was refused, the reply is told; else the book is as it was, and nothing is written to `reply`.
-/// So is it with the other codes.
+/// asked before memory was refused, the reply is told; else the book is as it was, and nothing is written to `reply`,
+/// so set it to 0 before the call. So is it with the other codes.
 #[unsafe(no_mangle)]
 pub extern "C" fn fiorrudda_ask(
     alloc: Global,

@@ -7,6 +7,7 @@ pub use Rattle.c_rules.specs.Answers.{and_then}
 pub use Rattle.c_rules.specs.Reading.{web_url_in}
 pub use Rattle.c_rules.specs.declared.refusal.Refusal.{Refusal}
 pub use Rattle.c_rules.specs.declared.refusal.Refusal.TheVariants.{NoRequest, NotHttp}
+pub use Rattle.fetch_answers.specs.Endings.{response_of}
 pub use Rattle.fetch_answers.specs.Following.{moved_to}
 pub use Rattle.fetch_rules.specs.Referrers.{with_referrer}
 pub use Rattle.fetch_rules.specs.Switch.{switch_of, with_tainting}
@@ -16,7 +17,6 @@ pub use Rattle.link_http1.specs.Requests.{request_bytes}
 pub use Rattle.policy_checks.specs.RequestOrigins.{serialized_request_origin}
 pub use Rattle.policy_csp.specs.Violations.{request_violations, response_violations}
 pub use Rattle.policy_csp_text.specs.declared.policy.Policy.{Policy}
-pub use Rattle.policy_filter.specs.Filtered.{filtered}
 pub use Rattle.policy_mixed.specs.Mixed.{is_blocked, is_upgraded}
 pub use Rattle.policy_preflight.specs.Preflight.{preflight_of}
 pub use Rattle.policy_preflight.specs.Verdict.{verdict}

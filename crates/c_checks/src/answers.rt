@@ -8,6 +8,7 @@ ghost use Rattle.value_headers.specs.Spelling.{HaveOneSpelling};
 use crate::requested::request_of;
 use c_fetch::{Asked, Settings};
 use c_rules::Refusal;
+use fetch_answers::is_manual;
 use fetch_rules::set_tainting;
 use policy_filter::filtered;
 use std::alloc::Global;
@@ -16,7 +17,8 @@ use value_mime::{essence_of, mime_blocked, nosniff, nosniff_blocked};
 use value_requests::{Destination, Head, Response, Tainting, slice_of};
 
 /// The filtered response of a status and a header list that answer a client's request with this response tainting
-/// (Fetch, section 2.2.6): basic, CORS or opaque. Its body is null. `NoRequest`.
+/// (Fetch, section 2.2.6): basic, CORS or opaque; of a redirect in redirect mode manual opaque-redirect. Its body is
+/// null. `NoRequest`.
 pub fn seen_response(
     alloc: Global,
     settings: &Settings,
@@ -35,7 +37,8 @@ pub fn seen_response(
         status,
         headers: list.copy(alloc)?,
     };
-    Ok(filtered(alloc, &request, head, false)?)
+    let manual = is_manual(&request, &head);
+    Ok(filtered(alloc, &request, head, manual)?)
 }
 
 // Whether the destination is script.

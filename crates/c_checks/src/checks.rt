@@ -9,8 +9,8 @@ use c_fetch::{Asked, Settings};
 use c_rules::Refusal;
 use policy_csp::{Compiled, Violations};
 use std::alloc::Global;
+use value_bytes::OutOfMemory;
 use value_requests::{Client, Request};
-use value_text::OutOfMemory;
 
 /// Which policies are asked, and of what (CSP 3, section 4.1).
 #[derive(Clone, Copy, Debug, PartialEq, Eq)]

@@ -6,8 +6,8 @@ ghost use Rattle.c_checks.specs.Policies as spec;
 use policy_csp::Compiled;
 use policy_csp_text::{Policies, parse_policies};
 use std::alloc::Global;
+use value_bytes::OutOfMemory;
 use value_headers::HeaderList;
-use value_text::OutOfMemory;
 
 /// How many policies are too many for a document: it is want of memory.
 const TOO_MANY: usize = 4_294_967_296;

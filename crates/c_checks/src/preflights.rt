@@ -15,9 +15,9 @@ use policy_checks::serialized_origin;
 use policy_preflight::{Checked, preflight_of, verdict};
 use policy_safelist::unsafe_names;
 use std::alloc::Global;
+use value_bytes::{Bytes, OutOfMemory};
 use value_headers::HeaderList;
 use value_requests::{Client, Head, Hop, NetError, Request};
-use value_text::{Bytes, OutOfMemory};
 
 // The preflight of a request of a client at an http or https URL.
 fn preflight_to(

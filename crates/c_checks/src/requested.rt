@@ -49,10 +49,10 @@ fn redirected_by(alloc: Global, request: Request, redirect: &[u8]) -> Result<Req
     redirected_to(request, url)
 }
 
-/// The request that a client makes of what is asked for, and after a redirect to a URL that keeps its method and names no
-/// policy (Fetch, "HTTP-redirect fetch"); an empty text stands for no redirect. `NoRequest` where none can be
-/// made of what is asked for, or its URL is neither http nor https, so that nothing redirects it; `NotUrl` or `NotHttp`
-/// of the URL.
+/// The request that a client makes of what is asked for, and after a redirect to a URL that keeps its method and names
+/// no policy (Fetch, "HTTP-redirect fetch"); an empty text stands for no redirect. `NoRequest` where none can be made
+/// of what is asked for, or its URL is neither http nor https, so that nothing redirects it; `NotUrl` or `NotHttp` of
+/// the URL.
 pub fn request_at(
     alloc: Global,
     settings: &Settings,

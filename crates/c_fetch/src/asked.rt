@@ -5,8 +5,8 @@ ghost use Rattle.c_fetch.specs.Asked as spec;
 use crate::fetch_init::AskedFetch;
 use crate::load_init::AskedLoad;
 use std::alloc::Global;
+use value_bytes::{Bytes, OutOfMemory};
 use value_requests::{Credentials, CrossOrigin, Destination, Mode, RedirectMode, ReferrerPolicy};
-use value_text::{Bytes, OutOfMemory};
 
 /// What is asked for: a `fetch`, or a load.
 #[derive(Drop)]

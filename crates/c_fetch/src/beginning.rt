@@ -9,8 +9,8 @@ use c_rules::Refusal;
 use fetch_requests::{new_load, new_request};
 use fetch_session::Session;
 use std::alloc::Global;
+use value_bytes::OutOfMemory;
 use value_requests::{Request, TypeFault};
-use value_text::OutOfMemory;
 
 /// The first time, in seconds, that is too late for a fetch.
 const END_OF_TIME: u64 = 281_474_976_710_656;

@@ -4,8 +4,9 @@ ghost use Rattle.std.specs.Prelude.{◌≡◌, IfOk, OnErr, OnOk};
 use crate::asked::{Choice, Words};
 use std::alloc::Global;
 use std::marker::Model;
+use value_bytes::{Bytes, OutOfMemory};
 use value_requests::{Credentials, Init, Mode, Pair, Pairs, RedirectMode, ReferrerPolicy};
-use value_text::{Bytes, OutOfMemory, trim_http};
+use value_text::trim_http;
 
 /// How many headers are too many for a request: it is want of memory.
 const TOO_MANY: usize = 4_294_967_295;

@@ -4,8 +4,8 @@ ghost use Rattle.std.specs.Prelude.{◌≡◌, IfOk};
 use crate::asked::{Choice, Words};
 use std::alloc::Global;
 use std::marker::Model;
+use value_bytes::{Bytes, OutOfMemory};
 use value_requests::{CrossOrigin, Destination, LoadInit, ReferrerPolicy};
-use value_text::{Bytes, OutOfMemory};
 
 /// What an element asks for that loads a resource. Seen as its init.
 #[derive(Drop)]

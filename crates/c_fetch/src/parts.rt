@@ -9,9 +9,9 @@ use fetch_acts::Act;
 use fetch_session::Session;
 use link_http1::write_request;
 use std::alloc::Global;
+use value_bytes::{Bytes, OutOfMemory};
 use value_headers::PackedHeaders;
 use value_requests::{BodyEnd, Hop, NetError, Outcome, Response, Violation};
-use value_text::{Bytes, OutOfMemory};
 
 /// A text that an act or an outcome may have. Lists have one at each index from 0 on; for the others the index is not
 /// looked at.

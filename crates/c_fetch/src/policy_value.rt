@@ -1,5 +1,5 @@
 // The value of a policy's header, as it was given.
-use value_text::Bytes;
+use value_bytes::Bytes;
 
 /// The value of a Content-Security-Policy header, or of a report-only one.
 #[derive(Drop)]

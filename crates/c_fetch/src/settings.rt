@@ -12,9 +12,10 @@ use policy_csp_text::{Policies, parse_policies};
 use std::alloc::Global;
 use std::marker::Model;
 use url::Url;
+use value_bytes::{Bytes, Items, OutOfMemory};
 use value_origins::is_http_url;
 use value_requests::{Client, Cookie, Cookies, ReferrerPolicy, policy_or};
-use value_text::{Bytes, Items, OutOfMemory, is_value};
+use value_text::is_value;
 
 /// How many policies are too many for a document: it is want of memory.
 const TOO_MANY: usize = 4_294_967_296;

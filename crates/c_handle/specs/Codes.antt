@@ -3,7 +3,8 @@ use Rattle.std.specs.Prelude.{◌≡◌, ℕ, Bool, true, false, drop, length, n
 use Rattle.std.specs.Prelude.{Option, Some, None, Result, Ok, Err, if◌then◌else◌}
 use Rattle.value_text.specs.Texts.{Text}
 use Rattle.c_handle.specs.declared.codes.TheConstants.{OK, NO, OUT_OF_MEMORY, TOO_SHORT, NOT_A_URL, NOT_HTTP}
-use Rattle.c_handle.specs.declared.codes.TheConstants.{NOT_A_HEADER, NOT_A_HOST, NOT_AWAITED, NO_REQUEST, NO_SUCH_NUMBER}
+use Rattle.c_handle.specs.declared.codes.TheConstants.{NOT_A_HEADER, NOT_A_HOST, NOT_AWAITED, NO_REQUEST}
+use Rattle.c_handle.specs.declared.codes.TheConstants.{NO_SUCH_NUMBER}
 use Rattle.c_handle.specs.declared.codes.TheConstants.{TOO_LATE, WRONG_HANDLE}
 use Rattle.c_rules.specs.declared.refusal.Refusal.{Refusal}
 use Rattle.c_rules.specs.declared.refusal.Refusal.TheVariants.{OutOfMemory, NotUrl, NotHttp, NotHeader, TooLate}

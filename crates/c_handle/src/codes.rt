@@ -10,7 +10,8 @@ pub const NO: u32 = 1;
 pub const WRONG_HANDLE: u32 = 2;
 
 /// Memory was refused. What handles hold is as it was, except that a fetch which was told something is gone, and that a
-/// book which a fetch asked may have done what it was asked: then its reply is told. No other answer is written.
+/// book which a fetch asked may have done what it was asked: then its reply is told. No other answer is written, except
+/// that `fiorrudda_feed` tells that no byte was taken.
 pub const OUT_OF_MEMORY: u32 = 3;
 
 /// The room for the answer is too short. Nothing is written but how many bytes the answer has.
@@ -31,7 +32,7 @@ pub const NOT_A_HEADER: u32 = 8;
 /// A time is 2^48 seconds or more.
 pub const TOO_LATE: u32 = 9;
 
-/// What came is not what the fetch awaits. Nothing is changed.
+/// What came is not what the fetch awaits. What handles hold is as it was.
 pub const NOT_AWAITED: u32 = 10;
 
 /// No request can be made of what is asked for; `fiorrudda_fetch` tells why.

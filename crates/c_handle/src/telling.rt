@@ -9,7 +9,7 @@ use crate::codes::{
     TOO_SHORT,
 };
 use c_rules::Refusal;
-use value_text::Bytes;
+use value_bytes::Bytes;
 
 // The code of a refusal.
 pub fn code_of(refusal: Refusal) -> u32

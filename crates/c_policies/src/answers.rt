@@ -66,7 +66,8 @@ fn shown(
 /// Makes in a handle the header list that a page sees of an answer to its request, and tells in `seen` the status that
 /// it sees: those of the filtered response by one of the numbers `TAINTING_..` (Fetch, section 2.2.6). Basic hides
 /// Set-Cookie; of CORS the safelisted and the exposed headers are seen, by the request's credentials mode; of opaque
-/// nothing, and its status is 0, as that of an opaque-redirect filtered response. What the handle held is freed.
+/// nothing, and its status is 0. So is it with a redirect in redirect mode manual, by any of the numbers: it is an
+/// opaque-redirect filtered response. What the handle held is freed.
 ///
 /// `OK`; `NO_SUCH_NUMBER`; `WRONG_HANDLE`, of the client, the request or the header list; `NO_REQUEST` where none can
 /// be made of what is asked for; `OUT_OF_MEMORY`. Except for `OK` the handle holds what it held, and nothing is

@@ -5,8 +5,9 @@ ghost use Rattle.c_rules.specs.Headers as spec;
 
 use crate::refusal::Refusal;
 use std::alloc::Global;
+use value_bytes::Bytes;
 use value_headers::HeaderList;
-use value_text::{Bytes, is_token, is_value};
+use value_text::{is_token, is_value};
 
 /// "append": adds a header, its name in the spelling that the list has already (Fetch, section 2.2.2). `NotHeader`
 /// where the name is no token or the value no header value. A refused one leaves the list as it was.

@@ -7,8 +7,8 @@ use crate::refusal::Refusal;
 use book_calls::{Book, Op, Reply};
 use book_hosts::parse_sts;
 use std::alloc::Global;
+use value_bytes::Bytes;
 use value_requests::are_host_name;
-use value_text::Bytes;
 
 /// The first time, in seconds, that is too late for a book.
 const END_OF_TIME: u64 = 281_474_976_710_656;
@@ -27,9 +27,9 @@ fn check_host(alloc: Global, host: &[u8], now: u64) -> Result<(), Refusal>
 }
 
 /// Notes what the value of a Strict-Transport-Security field of a host says, at a time in seconds, and tells whether it
-/// says something (RFC 6797, section 8.1). The field came over https with no error. `NotHost` of a host that is no domain
-/// as a URL has it, or a localhost name (section 8.1.1); `TooLate` at 2^48 seconds. A refused note leaves the book as it
-/// was.
+/// says something (RFC 6797, section 8.1). The field came over https with no error. `NotHost` of a host that is no
+/// domain as a URL has it (section 8.1.1), or a localhost name, which is this project's profile; `TooLate` at 2^48 seconds. A refused note leaves the
+/// book as it was.
 pub fn note_field(
     alloc: Global,
     book: &mut Book,

@@ -7,8 +7,9 @@ use crate::refusal::Refusal;
 use policy_filter::exposed_names;
 use policy_safelist::{is_forbidden_header as is_forbidden, unsafe_names};
 use std::alloc::Global;
+use value_bytes::{Bytes, OutOfMemory};
 use value_headers::HeaderList;
-use value_text::{Bytes, OutOfMemory, is_token, is_value};
+use value_text::{is_token, is_value};
 
 // The text at an index, copied.
 fn text_at(alloc: Global, texts: &[Bytes], at: usize) -> Result<Option<Bytes>, OutOfMemory>

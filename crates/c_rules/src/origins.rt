@@ -6,8 +6,8 @@ use crate::reading::{read_url, read_web_url};
 use crate::refusal::Refusal;
 use policy_mixed::bad_port;
 use std::alloc::Global;
+use value_bytes::Bytes;
 use value_origins::{have_same_origin, is_trustworthy_url, same_site, serialize, tuple_origin};
-use value_text::Bytes;
 
 /// The serialised origin of an http or https URL (HTML, section 7.1.1, "serialization of an origin"). `NotUrl`, or
 /// `NotHttp` for a URL of another scheme, whose origin is not looked at here.

@@ -6,8 +6,8 @@ use crate::reading::read_web_url;
 use crate::refusal::Refusal;
 use policy_referrer::determine;
 use std::alloc::Global;
+use value_bytes::Bytes;
 use value_requests::{ReferrerPolicy, policy_or};
-use value_text::Bytes;
 
 /// The referrer that a policy tells the URL `target` of the page `source`, as a text, or none (Referrer Policy, section
 /// 8.3, "determine request's Referrer"). The empty policy is as the default one, strict-origin-when-cross-origin.

@@ -1,5 +1,5 @@
 // Why a rule that is asked of texts has no answer.
-use value_text::OutOfMemory;
+use value_bytes::OutOfMemory;
 
 /// Why a call has no answer.
 #[derive(Clone, Copy, Debug, PartialEq, Eq)]

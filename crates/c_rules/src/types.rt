@@ -4,8 +4,8 @@ ghost use Rattle.c_rules.specs.Types as spec;
 
 use crate::refusal::Refusal;
 use std::alloc::Global;
+use value_bytes::Bytes;
 use value_headers::HeaderList;
-use value_text::Bytes;
 
 /// The essence, in lower case, of the MIME type that a header list gives, or nothing where it gives none (Fetch,
 /// "extract a MIME type").

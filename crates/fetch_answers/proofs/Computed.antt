@@ -5,7 +5,8 @@ use Rattle.url.specs.declared.host.Host.TheVariants.{Domain}
 use Rattle.url.specs.Parts.{Parts}
 use Rattle.value_headers.specs.declared.headers.Header.{Header}
 use Rattle.value_origins.specs.Origins.{tuple_origin}
-use Rattle.value_requests.specs.declared.error.NetError.TheVariants.{BadLocation, Coding, CorsCheck, CspResponse, Integrity}
+use Rattle.value_requests.specs.declared.error.NetError.TheVariants.{BadLocation, Coding, CorsCheck, CspResponse}
+use Rattle.value_requests.specs.declared.error.NetError.TheVariants.{Integrity}
 use Rattle.value_requests.specs.declared.error.NetError.TheVariants.{Mime, NoSniff, RedirectCredentials, RedirectMode}
 use Rattle.value_requests.specs.declared.error.NetError.TheVariants.{RedirectScheme, TooManyRedirects}
 use Rattle.value_requests.specs.declared.hop.Head.{Head}

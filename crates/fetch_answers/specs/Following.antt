@@ -58,7 +58,8 @@ with_policy_of headers request = record request { policy = policy_or (policy_of_
 abbrev pub at_next : Parts → Request → Request
 at_next url request = record request { urls = request.urls ++ url ∷ []; redirects = request.redirects + 1 }
 
--- the request at this URL, without Authorization where that has another origin than the current URL (steps 13, 18 and 8)
+-- the request at this URL, without Authorization where that has another origin than the current URL (steps 13, 18 and
+-- 8)
 abbrev pub moved_to : Parts → Request → Request
 moved_to url request = at_next url (with_authorization_at url request)
 

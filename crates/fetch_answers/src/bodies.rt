@@ -4,9 +4,9 @@ ghost use Rattle.std.specs.List.{list_any};
 ghost use Rattle.fetch_answers.specs.Bodies as spec;
 
 use std::alloc::Global;
+use value_bytes::{Bytes, OutOfMemory};
 use value_lists::split_values;
 use value_requests::{Head, Request, is_null_body_status};
-use value_text::{Bytes, OutOfMemory};
 
 /// Whether the answer to a request has no body: the method is HEAD, or the status a null body status
 /// (Fetch, "main fetch"). It takes no memory.

@@ -11,12 +11,12 @@ use crate::judging::is_manual;
 use policy_filter::filtered;
 use policy_integrity::{matches, parse_metadata};
 use std::alloc::Global;
+use value_bytes::OutOfMemory;
 use value_headers::HeaderList;
 use value_mime::{essence_of, mime_blocked, nosniff, nosniff_blocked};
 use value_requests::{
     BodyEnd, Destination, Head, NetError, Outcome, Request, Response, Tainting, slice_of,
 };
-use value_text::OutOfMemory;
 
 // Whether the destination is that of a `fetch`.
 fn is_fetch(destination: Destination) -> bool

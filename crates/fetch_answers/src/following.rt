@@ -7,10 +7,11 @@ ghost use Rattle.fetch_answers.specs.Following as spec;
 use policy_checks::has_name_among;
 use std::alloc::Global;
 use url::Url;
+use value_bytes::{Bytes, OutOfMemory};
 use value_headers::{Field, HeaderList, HeaderTest};
 use value_origins::have_same_origin;
 use value_requests::{Head, Request, is_get_or_head, policy_of_header, policy_or};
-use value_text::{AUTHORIZATION, Bytes, OutOfMemory};
+use value_text::AUTHORIZATION;
 
 // The request-body-header names.
 const BODY_HEADER_NAMES: [&[u8]; 4] = [
@@ -119,8 +120,8 @@ pub fn redirect_request(
 }
 
 /// The request after a redirect to a URL that keeps the method and names no policy (Fetch, "HTTP-redirect fetch", steps
-/// 13, 18 and 8): where the URL has another origin than the current URL, Authorization is deleted. The only error is want
-/// of memory.
+/// 13, 18 and 8): where the URL has another origin than the current URL, Authorization is deleted. The only error is
+/// want of memory.
 pub fn moved_to(request: Request, url: Url) -> Result<Request, OutOfMemory>
     requires request { IsRequest request }
     requires few { request.redirects < most_redirects }

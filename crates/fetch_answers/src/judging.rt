@@ -7,9 +7,9 @@ ghost use Rattle.value_requests.specs.Requests.{IsRequest};
 
 use policy_checks::{is_blocked, passes_check};
 use std::alloc::Global;
+use value_bytes::OutOfMemory;
 use value_headers::HeaderList;
 use value_requests::{Head, NetError, Request, Tainting, is_redirect_status};
-use value_text::OutOfMemory;
 
 // The network error of the check of a response by the request's tainting.
 fn check_error(

@@ -10,12 +10,12 @@ use crate::answers::Redirection;
 use crate::judging::is_to_follow;
 use std::alloc::Global;
 use url::Url;
+use value_bytes::{BytesList, OutOfMemory};
 use value_lists::{Extracted, Rule, extract_values};
 use value_origins::{is_http_url, is_origin_of};
 use value_requests::{
     Head, MOST_REDIRECTS, NetError, Request, has_credentials, unless_long, url_against,
 };
-use value_text::{BytesList, OutOfMemory};
 
 // The URL with this fragment, which is that of a URL.
 fn with_fragment(url: Url, fragment: &str) -> Result<Url, OutOfMemory>

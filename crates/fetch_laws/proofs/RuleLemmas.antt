@@ -27,7 +27,8 @@ use Rattle.policy_csp.specs.Violations.{is_asked, is_violated, request_violation
 use Rattle.policy_csp.specs.Violations.{violations_from}
 use Rattle.policy_preflight.specs.declared.answer.Checked.{Checked}
 use Rattle.policy_preflight.specs.declared.answer.Checked.TheVariants.{Pass, Refused}
-use Rattle.policy_preflight.specs.Verdict.{age_of, allows_authorization, allows_method, first_refused, methods_of, names_of}
+use Rattle.policy_preflight.specs.Verdict.{age_of, allows_authorization, allows_method, first_refused, methods_of}
+use Rattle.policy_preflight.specs.Verdict.{names_of}
 use Rattle.policy_preflight.proofs.LessonLemmas.{age-small}
 use Rattle.policy_preflight.specs.Verdict.{unless_refused, verdict, verdict_by, verdict_where}
 use Rattle.fetch_acts.specs.declared.act.Act.{Act}

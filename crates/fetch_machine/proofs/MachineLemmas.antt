@@ -18,7 +18,7 @@ use Rattle.value_requests.specs.Requests.{current_url}
 use Rattle.policy_checks.specs.RequestOrigins.{serialized_request_origin}
 use Rattle.value_requests.specs.declared.error.NetError.TheVariants.{CspRequest}
 use Rattle.value_requests.specs.declared.policy.Violation.{Violation}
-use Rattle.value_text.specs.declared.memory.OutOfMemory.{OutOfMemory}
+use Rattle.value_bytes.specs.declared.memory.OutOfMemory.{OutOfMemory}
 use Rattle.policy_csp.specs.Violations.{has_enforced, response_violations, upgrades}
 use Rattle.policy_csp_text.specs.declared.policy.Policy.{Policy}
 use Rattle.policy_mixed.specs.Mixed.{is_upgraded}

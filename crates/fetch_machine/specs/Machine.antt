@@ -3,7 +3,7 @@
 use Rattle.std.specs.Prelude.{◌≡◌, ℕ, zero, suc, Bool, true, false, List, [], drop, Some, Result, Ok, Err}
 use Rattle.fetch_acts.specs.Process.{IsPlain, Process, Run, act, began, ended, followed, run}
 use Rattle.fetch_acts.specs.declared.act.Act.{Act}
-use Rattle.value_text.specs.declared.memory.OutOfMemory.{OutOfMemory}
+use Rattle.value_bytes.specs.declared.memory.OutOfMemory.{OutOfMemory}
 use Rattle.fetch_machine.specs.declared.place.Fetching.{Fetching}
 use Rattle.fetch_machine.specs.declared.place.Level.{Level}
 use Rattle.fetch_machine.specs.declared.place.Place.{Place}

@@ -20,8 +20,8 @@ use fetch_requests::hop_of;
 use fetch_rules::note_of;
 use std::alloc::Global;
 use url::Url;
+use value_bytes::OutOfMemory;
 use value_requests::{Head, NetError, Request};
-use value_text::OutOfMemory;
 
 // HTTP fetch: the request is sent (step 4.3).
 pub(crate) fn send(alloc: Global, context: &Context<'_>, level: Level) -> Result<Step, OutOfMemory>

@@ -24,8 +24,8 @@ use fetch_rules::{
 };
 use policy_csp::Violations;
 use std::alloc::Global;
+use value_bytes::OutOfMemory;
 use value_requests::{NetError, Tainting};
-use value_text::OutOfMemory;
 
 // The level with this response tainting of its request.
 fn tainted(level: Level, tainting: Tainting) -> Level

@@ -18,8 +18,8 @@ use policy_checks::serialized_origin;
 use policy_preflight::{Checked, preflight_of, verdict};
 use policy_safelist::unsafe_names;
 use std::alloc::Global;
+use value_bytes::OutOfMemory;
 use value_requests::{Head, NetError, Request};
-use value_text::OutOfMemory;
 
 // HTTP fetch with a CORS-preflight: the preflight cache is asked (step 4.1). From here on the level owes a clear.
 pub(crate) fn ask_cache(

@@ -17,9 +17,9 @@ use book_calls::Reply;
 use fetch_acts::Input;
 use policy_csp::Compiled;
 use std::alloc::Global;
+use value_bytes::OutOfMemory;
 use value_places::Boxed;
 use value_requests::{BodyEnd, Client, Cookies, Head, NetError, Request};
-use value_text::OutOfMemory;
 
 // Whether the book said yes.
 fn said_yes(input: &Input) -> bool

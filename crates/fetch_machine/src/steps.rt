@@ -21,9 +21,9 @@ use fetch_rules::clear_of;
 use policy_csp::Violations;
 use std::alloc::Global;
 use std::snapshot::Snapshot;
+use value_bytes::OutOfMemory;
 use value_places::{Boxed, Shared};
 use value_requests::{BodyEnd, Head, Hop, NetError, Outcome, Response, Violation};
-use value_text::OutOfMemory;
 
 // A copy of a violation, in a place of its own.
 pub(crate) fn copied(alloc: Global, violation: &Violation) -> Result<Boxed<Violation>, OutOfMemory>

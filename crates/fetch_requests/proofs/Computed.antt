@@ -11,8 +11,10 @@ use Rattle.value_requests.specs.declared.client.Cookie.{Cookie}
 use Rattle.value_requests.specs.declared.mode.Tainting.TheVariants.{Basic, Cors}
 use Rattle.value_requests.specs.declared.request.Referrer.TheVariants.{Address}
 use Rattle.value_requests.specs.declared.request.Request.{Request}
-use Rattle.value_requests.specs.declared.fault.TypeFault.TheVariants.{BadUrl, UrlCredentials, BadMethod, ForbiddenMethod}
-use Rattle.value_requests.specs.declared.fault.TypeFault.TheVariants.{BodyWithGet, NoCorsMethod, BadHeader, NavigateMode}
+use Rattle.value_requests.specs.declared.fault.TypeFault.TheVariants.{BadUrl, UrlCredentials, BadMethod}
+use Rattle.value_requests.specs.declared.fault.TypeFault.TheVariants.{ForbiddenMethod}
+use Rattle.value_requests.specs.declared.fault.TypeFault.TheVariants.{BodyWithGet, NoCorsMethod, BadHeader}
+use Rattle.value_requests.specs.declared.fault.TypeFault.TheVariants.{NavigateMode}
 use Rattle.value_requests.specs.declared.init.CrossOrigin.{CrossOrigin}
 use Rattle.value_requests.specs.declared.init.CrossOrigin.TheVariants.{Absent, Anonymous, UseCredentials}
 use Rattle.value_requests.specs.declared.init.Init.{Init}

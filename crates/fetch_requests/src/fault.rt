@@ -5,10 +5,11 @@ ghost use Rattle.value_requests.specs.Methods.{normalized};
 
 use policy_safelist::is_forbidden_method;
 use url::Url;
+use value_bytes::Bytes;
 use value_requests::{
     Init, Mode, Pair, TypeFault, has_credentials, is_get_or_head, is_safelisted_method,
 };
-use value_text::{Bytes, is_token, is_value};
+use value_text::{is_token, is_value};
 
 /// How many bytes the method and the headers may have together.
 const MOST_GIVEN: usize = 16_384;

@@ -6,9 +6,9 @@ ghost use Rattle.fetch_requests.specs.Making as spec;
 
 use policy_safelist::{Guard, guarded_append};
 use std::alloc::Global;
+use value_bytes::{Bytes, OutOfMemory};
 use value_headers::HeaderList;
 use value_requests::{Destination, Init, Mode, Pair};
-use value_text::{Bytes, OutOfMemory};
 
 // The guard of the headers of a request in this mode.
 fn guard_of(mode: Mode) -> Guard

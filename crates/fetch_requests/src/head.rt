@@ -9,12 +9,12 @@ ghost use Rattle.value_requests.specs.Targets.{origin_text};
 use policy_checks::{origin_value, referrer_value};
 use std::alloc::Global;
 use url::Url;
+use value_bytes::{Bytes, OutOfMemory};
 use value_headers::{HeaderList, PackedHeaders};
 use value_requests::{
     ACCEPT_ENCODING, CONNECTION, Cookie, Credentials, Request, Tainting, USER_AGENT, append_where,
     host_value, is_post_or_put, slice_of,
 };
-use value_text::{Bytes, OutOfMemory};
 
 // How many lines are sent beside a request's own: Host, and those of `append_added` but Cookie, which is rare.
 const USUAL_LINES: usize = 7;

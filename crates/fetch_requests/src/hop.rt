@@ -6,8 +6,8 @@ ghost use Rattle.value_requests.specs.Requests.{IsAtHttp, IsRequest, is_determin
 
 use crate::head::head_lines;
 use std::alloc::Global;
+use value_bytes::{Bytes, OutOfMemory, copy_of};
 use value_requests::{Cookies, Hop, Request, origin_text, target_of};
-use value_text::{Bytes, OutOfMemory, copy_of};
 
 /// The request as it is sent to its current URL (Fetch, section 4.6; RFC 9112, section 3.2): the
 /// target of its request line, and its header list: Host, then the request's own headers, then those of

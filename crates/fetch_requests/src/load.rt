@@ -7,11 +7,11 @@ use crate::fill::load_headers;
 use crate::make::{url_given, urls_of};
 use std::alloc::Global;
 use url::Url;
+use value_bytes::{Bytes, OutOfMemory};
 use value_requests::{
     Client, Credentials, CrossOrigin, Destination, LoadInit, Mode, RedirectMode, Referrer, Request,
     Tainting, TypeFault,
 };
-use value_text::{Bytes, OutOfMemory};
 
 // Whether resources of this kind are only ever fetched in mode cors.
 fn is_always_cors(kind: Destination) -> bool

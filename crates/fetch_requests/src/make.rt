@@ -8,11 +8,11 @@ use crate::fault::fault_of;
 use crate::fill::header_list;
 use std::alloc::Global;
 use url::Url;
+use value_bytes::{Bytes, OutOfMemory, copy_of};
 use value_requests::{
     Client, Destination, Init, Referrer, Request, Tainting, TypeFault, Urls, normalized_method,
     unless_long, url_against,
 };
-use value_text::{Bytes, OutOfMemory, copy_of};
 
 // How many bytes the text of a URL has at most.
 const MOST_URL_TEXT: usize = 786_432;

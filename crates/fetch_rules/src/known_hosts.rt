@@ -12,10 +12,11 @@ use book_calls::Op;
 use book_hosts::{Sts, parse_sts};
 use std::alloc::Global;
 use url::{Host, Url};
+use value_bytes::{Bytes, OutOfMemory};
 use value_headers::Field;
 use value_origins::is_local_name;
 use value_requests::{Head, Request};
-use value_text::{Bytes, OutOfMemory, eq_fold};
+use value_text::eq_fold;
 
 // The name by which the host of a URL is known.
 fn name_of_host(url: &Url) -> Option<&str>

@@ -8,8 +8,8 @@ use book_preflights::{Lesson, Names, Question};
 use policy_checks::serialized_origin;
 use policy_safelist::unsafe_names;
 use std::alloc::Global;
+use value_bytes::{Bytes, BytesList, OutOfMemory};
 use value_requests::{Client, Request, is_safelisted_method};
-use value_text::{Bytes, BytesList, OutOfMemory};
 
 // The URL by which entries are found.
 fn url_text(alloc: Global, request: &Request) -> Result<Bytes, OutOfMemory>

@@ -9,8 +9,8 @@ use crate::policies::set_policy;
 use policy_referrer::determine;
 use std::alloc::Global;
 use url::Url;
+use value_bytes::OutOfMemory;
 use value_requests::{Client, Referrer, ReferrerPolicy, Request};
-use value_text::OutOfMemory;
 
 // A URL as a referrer, or none.
 fn referrer_of(url: Option<Url>) -> Referrer

@@ -5,9 +5,9 @@ ghost use Rattle.value_requests.specs.Requests.{IsRequest};
 
 use policy_safelist::unsafe_names;
 use std::alloc::Global;
+use value_bytes::OutOfMemory;
 use value_origins::is_origin_of;
 use value_requests::{Mode, NetError, RedirectMode, Request, Tainting, is_safelisted_method};
-use value_text::OutOfMemory;
 
 /// How a request is fetched (Fetch, section 4.1, "main fetch", step 12).
 #[derive(Drop)]

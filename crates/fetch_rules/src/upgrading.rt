@@ -8,8 +8,8 @@ ghost use Rattle.value_requests.specs.Requests.{IsRequest, IsAtHttp, is_http_url
 use policy_csp::Compiled;
 use policy_mixed::upgrade;
 use url::{ParseResult, Url};
+use value_bytes::OutOfMemory;
 use value_requests::{Client, Request};
-use value_text::OutOfMemory;
 
 // Gives an http or https URL the scheme https.
 fn set_https(url: &mut Url) -> ParseResult<()>

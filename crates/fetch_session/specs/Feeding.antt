@@ -127,8 +127,8 @@ FailsTo None next = ⊥
 abbrev pub Ends : Option Standing → Went → Option Standing → Type 0
 Ends = Goes reads (λ standing. at_end (first_act standing.process) standing)
 
--- How a call went that tells of a failure of the connection: the fetch goes on, where one is used; or nothing is changed
--- where none is; or memory was refused, and the fetch is gone.
+-- How a call went that tells of a failure of the connection: the fetch goes on, where one is used; or nothing is
+-- changed where none is; or memory was refused, and the fetch is gone.
 abbrev pub Fails : Option Standing → Went → Option Standing → Type 0
 Fails old went.On next = (may_fail old ≡ true) × FailsTo old next
 Fails old went.NotAwaited next = (may_fail old ≡ false) × (next ≡ old)

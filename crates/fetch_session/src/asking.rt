@@ -34,8 +34,8 @@ impl Session {
         }
     }
 
-    /// Asks the book what the act asks it for. Where memory is refused the fetch is gone; the book is as it is after the
-    /// operation where there is a reply, and else as it was.
+    /// Asks the book what the act asks it for. Where memory is refused the fetch is gone; the book is as it is after
+    /// the operation where there is a reply, and else as it was.
     pub fn ask(&mut self, alloc: Global, book: &mut Book) -> Replied
         ensures went { spec.Asks book.old (standing_of self.old) result.went (standing_of self.new) }
         ensures book { BookAfter (act_of (standing_of self.old)) result.went book.old book.new result.reply }

@@ -9,8 +9,8 @@ use crate::session::{Session, Waiting, Went};
 use fetch_acts::{Act, Input};
 use link_http1::{BodyReader, BodyStep};
 use std::alloc::Global;
+use value_bytes::OutOfMemory;
 use value_requests::BodyEnd;
-use value_text::OutOfMemory;
 
 // How many bytes a body had that came to this end.
 fn count_of(end: &BodyEnd) -> u32

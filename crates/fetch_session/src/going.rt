@@ -12,7 +12,7 @@ use crate::session::{Session, Stand, Waiting, Went};
 use fetch_acts::Input;
 use fetch_machine::{Fetching, Step};
 use std::alloc::Global;
-use value_text::OutOfMemory;
+use value_bytes::OutOfMemory;
 
 // Where a step leads: the fetch waits with a new reader of what its act awaits, or is over.
 pub(crate) fn stand_of(alloc: Global, step: Step, bodies: Bodies) -> Result<Stand, OutOfMemory>

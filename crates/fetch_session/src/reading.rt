@@ -5,8 +5,8 @@ ghost use Rattle.fetch_session.specs.Readers.{bodies_after, reader_for};
 use fetch_acts::{Act, Input};
 use link_http1::{BodyReader, Framing, HeadReader, framing_of};
 use std::alloc::Global;
+use value_bytes::OutOfMemory;
 use value_requests::BodyEnd;
-use value_text::OutOfMemory;
 
 /// How the body behind the last head is framed, and how many bytes a body may have.
 #[derive(Clone, Copy, Debug, PartialEq, Eq)]

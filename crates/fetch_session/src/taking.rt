@@ -15,8 +15,8 @@ use fetch_acts::Input;
 use fetch_machine::Fetching;
 use link_http1::Framing;
 use std::alloc::Global;
+use value_bytes::OutOfMemory;
 use value_requests::Request;
-use value_text::OutOfMemory;
 
 impl Session {
     /// Begins the fetch of a request for a document at a time in seconds, which is below 2^48, with bodies of so many

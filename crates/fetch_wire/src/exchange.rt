@@ -14,8 +14,8 @@ use fetch_acts::{Act, Input};
 use link_http1::{BodyReader, BodyStep, HeadReader, HeadStep, framing_of, write_request};
 use link_traits::{Failed, Link, Target};
 use std::alloc::Global;
+use value_bytes::OutOfMemory;
 use value_requests::{BodyEnd, Head, Hop};
-use value_text::OutOfMemory;
 
 /// How many bytes of an answer a head takes at most: the last is one too many.
 const MOST_OF_HEAD: usize = 65_537;

@@ -7,7 +7,7 @@ ghost use Rattle.link_traits.specs.Sources.{Gave, IsAtEnd};
 use link_http1::Framing;
 use link_traits::{Failed, Link};
 use std::alloc::Global;
-use value_text::OutOfMemory;
+use value_bytes::OutOfMemory;
 
 /// How many bytes are received at once at most.
 pub(crate) const RECEIVED: usize = 4_096;

@@ -14,7 +14,8 @@ use Rattle.httparse.specs.Grammar.{print_version, reason_phrase, ResponseHead}
 use Rattle.httparse.proofs.GrammarLemmas.{print_response-append, response_unique}
 use Rattle.link_http1.specs.Blocks.{is_block, is_line_byte, IsShortestBlock}
 use Rattle.link_http1.proofs.BlockLemmas.{IsQuiet, no-line-byte, quiet-append, quiet-nil}
-use Rattle.link_http1.proofs.LineLemmas.{ends_line-none, EndsLine, IsBehindLine, IsLineText, line-quiet, shortest-behind}
+use Rattle.link_http1.proofs.LineLemmas.{ends_line-none, EndsLine, IsBehindLine, IsLineText, line-quiet}
+use Rattle.link_http1.proofs.LineLemmas.{shortest-behind}
 
 -- ---- the bytes of the grammar's classes are bytes of a line
 

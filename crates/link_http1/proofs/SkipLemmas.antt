@@ -8,7 +8,8 @@ use Rattle.httparse.specs.Grammar.{print_response, ResponseHead, status_code}
 use Rattle.value_requests.specs.declared.hop.Head.{Head}
 use Rattle.link_http1.specs.Answers.{IsUndecided}
 use Rattle.link_http1.specs.Blocks.{is_block, IsShortestBlock}
-use Rattle.link_http1.specs.Heads.{BeginsSkipped, EndsBlock, EndsFinal, head_of, is_skipped, IsHead, IsSkippedHead, Skips}
+use Rattle.link_http1.specs.Heads.{BeginsSkipped, EndsBlock, EndsFinal, head_of, is_skipped, IsHead, IsSkippedHead}
+use Rattle.link_http1.specs.Heads.{Skips}
 use Rattle.link_http1.proofs.BlockLemmas.{IsQuiet}
 use Rattle.link_http1.proofs.HeadLemmas.{head-one, head-shortest, shortest-one}
 

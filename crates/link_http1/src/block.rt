@@ -9,9 +9,9 @@ ghost use Rattle.link_http1.specs.Private.HeadReading.{HasRoom, IsJudged, line_e
 use httparse::Status;
 use httparse::spans::{EMPTY_HEADER_SPAN, HeaderSpan, parse_response};
 use std::alloc::Global;
+use value_bytes::OutOfMemory;
 use value_headers::HeaderList;
 use value_requests::Head;
-use value_text::OutOfMemory;
 
 // How many header lines a head has at most.
 pub(crate) const MOST_LINES: usize = 128;

@@ -13,8 +13,8 @@ use crate::seen::Seen;
 use crate::taking::{Found, least, take_piece};
 use std::alloc::Global;
 use std::marker::Model;
+use value_bytes::{Bytes, OutOfMemory};
 use value_requests::{BodyEnd, Head};
-use value_text::{Bytes, OutOfMemory};
 
 /// Reads the body of an answer from pieces, and is seen as its framing, its limit and all bytes so far,
 /// which do not decide the body.

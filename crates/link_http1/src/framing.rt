@@ -7,12 +7,11 @@ ghost use Rattle.link_http1.specs.Framings as spec;
 ghost use Rattle.link_http1.specs.Private.Lengths.{first_value, shortened};
 
 use std::alloc::Global;
+use value_bytes::{BytesList, OutOfMemory};
 use value_headers::{Field, HeaderList};
 use value_lists::split_values;
 use value_requests::Head;
-use value_text::{
-    BytesList, OutOfMemory, digits_at_most, eq_fold, parse_digits, trim_tab_or_space,
-};
+use value_text::{digits_at_most, eq_fold, parse_digits, trim_tab_or_space};
 
 /// How the body of an answer is framed (RFC 9112, section 6.3).
 #[derive(Clone, Copy, Debug, PartialEq, Eq)]

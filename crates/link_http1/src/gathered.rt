@@ -3,7 +3,7 @@ ghost use Rattle.std.specs.Prelude.{◌≡◌, ◌++◌, [], IfOk, OnOk};
 
 use std::alloc::Global;
 use std::marker::Model;
-use value_text::OutOfMemory;
+use value_bytes::OutOfMemory;
 
 /// The bytes of the block that has begun.
 #[derive(Drop)]

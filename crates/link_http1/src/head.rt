@@ -10,8 +10,9 @@ use crate::gathered::Gathered;
 use crate::seen::Seen;
 use std::alloc::Global;
 use std::marker::Model;
+use value_bytes::OutOfMemory;
 use value_requests::Head;
-use value_text::{OutOfMemory, position_of};
+use value_text::position_of;
 
 // How many bytes the heads of an answer have at most.
 const MOST_BYTES: usize = 65_536;

@@ -4,9 +4,9 @@ ghost use Rattle.std.specs.List.{flat_map};
 ghost use Rattle.link_http1.specs.Requests.{header_line, request_bytes, request_line};
 
 use std::alloc::Global;
+use value_bytes::{Bytes, OutOfMemory};
 use value_headers::PackedHeaders;
 use value_requests::Hop;
-use value_text::{Bytes, OutOfMemory};
 
 // How many bytes most requests have at most, for which room is made first.
 const FEW_BYTES: usize = 512;

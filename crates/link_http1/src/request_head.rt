@@ -7,8 +7,8 @@ use crate::block::{FEW_LINES, MOST_LINES, headers_of, line_ends};
 use httparse::Status;
 use httparse::spans::{EMPTY_HEADER_SPAN, HeaderSpan, parse_request};
 use std::alloc::Global;
+use value_bytes::{Bytes, OutOfMemory};
 use value_headers::HeaderList;
-use value_text::{Bytes, OutOfMemory};
 
 /// What the head of a request asks: its method, and its header lines in order.
 #[derive(Drop)]

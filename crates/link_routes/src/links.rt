@@ -7,7 +7,7 @@ ghost use Rattle.link_routes.specs.declared.routes.Route.{Route};
 use crate::routes::Routes;
 use link_traits::Link;
 use std::alloc::Global;
-use value_text::OutOfMemory;
+use value_bytes::OutOfMemory;
 
 /// What makes the link of each document, and takes it back at the end. It counts the faults of the
 /// links that it took back, and may tell the links that it makes and those that it took back, and

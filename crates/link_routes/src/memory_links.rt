@@ -4,7 +4,7 @@ ghost use Rattle.link_traits.specs.Counts.{grown_by};
 ghost use Rattle.link_traits.specs.Links.{IsForetold, TookBack, one_out};
 ghost use Rattle.link_routes.specs.MemoryLinks.{after_make, after_take_back};
 ghost use Rattle.link_routes.specs.declared.routes.Route.{Route};
-ghost use Rattle.value_text.specs.declared.memory.OutOfMemory.{OutOfMemory};
+ghost use Rattle.value_bytes.specs.declared.memory.OutOfMemory.{OutOfMemory};
 
 use crate::links::Links;
 use crate::routes::Routes;
@@ -12,7 +12,7 @@ use link_traits::MemoryLink;
 use std::alloc::Global;
 use std::collections::VecDeque;
 use std::marker::Model;
-use value_text::OutOfMemory;
+use value_bytes::OutOfMemory;
 
 /// Links in memory, which are handed out in order, whatever document they are for. It keeps those
 /// that come back.

@@ -1,5 +1,5 @@
 // Where servers listen: what the links of a play are made by.
-use value_text::{Bytes, Items};
+use value_bytes::{Bytes, Items};
 
 /// Where the server of an origin listens: the text of the origin, and that of the address.
 #[derive(Drop)]

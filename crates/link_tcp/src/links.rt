@@ -10,7 +10,7 @@ use std::alloc::Global;
 use std::marker::Model;
 use std::net::Net;
 use std::sync::Arc;
-use value_text::OutOfMemory;
+use value_bytes::OutOfMemory;
 
 /// Links over TCP, seen as how often those taken back had failed. It tells each link that
 /// it makes, and not those that it took back. Links that are made by the same routes share them.

@@ -6,7 +6,7 @@ ghost use Rattle.link_tcp.specs.Routes as spec;
 use link_routes::{Route, Routes};
 use std::alloc::Global;
 use std::sync::Arc;
-use value_text::OutOfMemory;
+use value_bytes::OutOfMemory;
 
 // The address of the first route of the origin.
 pub(crate) fn address_of<'a>(routes: &'a [Route], origin: &[u8]) -> Option<&'a [u8]>

@@ -6,7 +6,7 @@ ghost use Rattle.link_traits.specs.MemoryLink.{KeptState, asks_after, finds_room
 use crate::target::Ask;
 use std::alloc::Global;
 use std::marker::Model;
-use value_text::{Bytes, Items, OutOfMemory};
+use value_bytes::{Bytes, Items, OutOfMemory};
 
 /// How many bytes of each part of an ask were kept, and how many of its answer were received.
 #[derive(Clone, Copy)]

@@ -12,7 +12,7 @@ use crate::source::Failed;
 use std::alloc::Global;
 use std::collections::VecDeque;
 use std::marker::Model;
-use value_text::OutOfMemory;
+use value_bytes::OutOfMemory;
 
 /// Ends of connections in memory, which are given in order, whatever address is listened at. It keeps
 /// those that come back. It fails at an address that does not find its room, at chosen calls of `next`

@@ -18,7 +18,7 @@ use crate::target::{Ask, Target};
 use std::alloc::Global;
 use std::collections::VecDeque;
 use std::marker::Model;
-use value_text::{BytesList, Items, OutOfMemory};
+use value_bytes::{BytesList, Items, OutOfMemory};
 
 /// A link in memory, with its answers to come. It fails at chosen calls and where an ask does not
 /// find its room, and nowhere else.

@@ -11,7 +11,7 @@ use crate::sink::Sink;
 use crate::source::Failed;
 use std::alloc::Global;
 use std::marker::Model;
-use value_text::OutOfMemory;
+use value_bytes::OutOfMemory;
 
 /// A sink in memory with room for so many bytes. It fails at chosen calls and where its room is
 /// used up, and takes nothing at other chosen calls.

@@ -9,7 +9,7 @@ ghost use Rattle.link_traits.specs.Sources.{Gave, IsAtEnd};
 use crate::faults::Faults;
 use crate::source::{Failed, Source};
 use std::marker::Model;
-use value_text::Bytes;
+use value_bytes::Bytes;
 
 /// A source in memory, which fails at chosen calls and nowhere else.
 #[derive(Drop)]

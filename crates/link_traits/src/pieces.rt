@@ -4,7 +4,7 @@ ghost use Rattle.link_traits.specs.MemoryLink.{behind, front, skipped};
 
 use std::alloc::Global;
 use std::marker::Model;
-use value_text::BytesList;
+use value_bytes::BytesList;
 
 /// What is still to come of an answer, seen as the list of its pieces, the first of which may have
 /// been given in part.

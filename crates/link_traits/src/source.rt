@@ -6,7 +6,7 @@ ghost use Rattle.link_traits.specs.Sinks.{SinkTold};
 ghost use Rattle.link_traits.specs.Sources.{Gave, GaveAtMost, GaveJust, GaveWhole, IsAtEnd, SourceTold};
 
 use std::alloc::Global;
-use value_text::{Bytes, OutOfMemory};
+use value_bytes::{Bytes, OutOfMemory};
 
 /// A device failed.
 #[derive(Clone, Copy, Debug, PartialEq, Eq)]

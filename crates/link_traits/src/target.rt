@@ -1,5 +1,5 @@
 // Whom a request is for, and what a link was asked.
-use value_text::Bytes;
+use value_bytes::Bytes;
 
 /// Whom a request is for: its serialised origin.
 #[derive(Drop)]

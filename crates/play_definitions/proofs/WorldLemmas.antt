@@ -6,7 +6,7 @@ use Rattle.link_traits.specs.Sources.{IsAtEnd}
 use Rattle.link_traits.proofs.ReceivedLemmas.{received-none}
 use Rattle.fetch_wire.specs.Wires.{onto_left}
 use Rattle.play_definitions.specs.Worlds.{Outside, World, WorldRefused}
-use Rattle.value_text.specs.declared.memory.OutOfMemory.{OutOfMemory}
+use Rattle.value_bytes.specs.declared.memory.OutOfMemory.{OutOfMemory}
 
 -- nothing happened
 pub refuses-none : {State : Type 0} (a : Outside State) → WorldRefused a a

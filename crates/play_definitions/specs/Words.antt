@@ -33,7 +33,7 @@ pub use Rattle.script_scenarios.specs.declared.document.Document.{Document}
 pub use Rattle.script_scenarios.specs.declared.hosts.KnownHost.{KnownHost}
 pub use Rattle.script_scenarios.specs.declared.scenario.Scenario.{Scenario}
 pub use Rattle.script_scenarios.specs.declared.servers.Server.{Server}
-pub use Rattle.value_text.specs.declared.memory.OutOfMemory.{OutOfMemory}
+pub use Rattle.value_bytes.specs.declared.memory.OutOfMemory.{OutOfMemory}
 pub use Rattle.value_requests.specs.Requests.{IsClient, IsRequest}
 pub use Rattle.value_requests.specs.Targets.{IsSendable}
 pub use Rattle.value_requests.specs.declared.response.Outcome.{Outcome}

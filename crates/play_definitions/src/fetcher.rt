@@ -7,9 +7,9 @@ ghost use Rattle.play_definitions.specs.Words.{IsRequest, at_time, fetch, most_a
 use crate::player::Player;
 use book_calls::Share;
 use link_traits::Link;
+use value_bytes::OutOfMemory;
 use value_places::Boxed;
 use value_requests::{Outcome, Request};
-use value_text::OutOfMemory;
 
 /// What plays the fetches of a run. Scripts are played with any.
 pub trait Fetcher {

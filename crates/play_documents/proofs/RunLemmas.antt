@@ -5,10 +5,14 @@ use Rattle.value_requests.specs.declared.client.Cookie.{Cookie}
 use Rattle.value_requests.specs.declared.client.Client.{Client}
 use Rattle.play_definitions.specs.Playing.{RunCameTo, RunCut, RunPlayed}
 use Rattle.play_script.specs.Parts.{ended_by}
-use Rattle.play_documents.proofs.Words.{[], ℕ, ◌++◌, ◌∙◌, ◌≡◌, ◌≢◌, Answering, Document, Ending, Err, Event, IsAtEnd, IsIdle}
-use Rattle.play_documents.proofs.Words.{List, Memory, None, Ok, Option, OutOfMemory, Outside, PartCut, PartReached, Play}
-use Rattle.play_documents.proofs.Words.{PlayRun, Result, Rule, RuleCameTo, Settles, Some, Standing, Steps, WorldAnswers, ap}
-use Rattle.play_documents.proofs.Words.{append-nil, append_assoc, arith, beginning, document_client, document_run, finished}
+use Rattle.play_documents.proofs.Words.{[], ℕ, ◌++◌, ◌∙◌, ◌≡◌, ◌≢◌, Answering, Document, Ending, Err, Event, IsAtEnd}
+use Rattle.play_documents.proofs.Words.{IsIdle}
+use Rattle.play_documents.proofs.Words.{List, Memory, None, Ok, Option, OutOfMemory, Outside, PartCut, PartReached}
+use Rattle.play_documents.proofs.Words.{Play}
+use Rattle.play_documents.proofs.Words.{PlayRun, Result, Rule, RuleCameTo, Settles, Some, Standing, Steps, WorldAnswers}
+use Rattle.play_documents.proofs.Words.{ap}
+use Rattle.play_documents.proofs.Words.{append-nil, append_assoc, arith, beginning, document_client, document_run}
+use Rattle.play_documents.proofs.Words.{finished}
 use Rattle.play_documents.proofs.Words.{outside_of, over, play-run, refl, script_run, setting, sym}
 use Rattle.play_definitions.proofs.WorldLemmas.{refuses-none, still}
 use Rattle.play_script.proofs.PartLemmas.{cut-here, played-cut}

@@ -8,8 +8,10 @@ use Rattle.script_scenarios.specs.declared.scenario.Scenario.{Scenario}
 use Rattle.play_documents.specs.declared.seating.Row.{Row}
 use Rattle.play_definitions.specs.declared.seating.Seating.{Seating}
 use Rattle.play_documents.proofs.Words.{[], ℕ, ◌++◌, ◌+◌, ◌<◌, ◌∙◌, ◌∷◌, ◌≡◌, ◌≤◌, All, Answering, AreSeated, CanPlay}
-use Rattle.play_documents.proofs.Words.{Document, DocumentCameTo, EachDocument, List, RowCameTo, Seat, Some, Transcript, ap}
-use Rattle.play_documents.proofs.Words.{append-nil, arith, drop, get_or, get_or-map, length, length-map, map, most_calls}
+use Rattle.play_documents.proofs.Words.{Document, DocumentCameTo, EachDocument, List, RowCameTo, Seat, Some, Transcript}
+use Rattle.play_documents.proofs.Words.{ap}
+use Rattle.play_documents.proofs.Words.{append-nil, arith, drop, get_or, get_or-map, length, length-map, map}
+use Rattle.play_documents.proofs.Words.{most_calls}
 use Rattle.play_documents.proofs.Words.{range_with_len, refl, seatings_of, slice_get, subst, suc, sym, take, take_all}
 use Rattle.play_documents.proofs.Words.{transcripts_of, zero}
 

@@ -26,4 +26,4 @@ pub use Rattle.script_runs.specs.Play.{Play, PlayRun, over}
 pub use Rattle.script_runs.specs.Runs.{Progress, beginning, document_client, document_run, finished, script_run}
 pub use Rattle.script_runs.specs.Runs.{setting}
 pub use Rattle.script_scenarios.specs.declared.document.Document.{Document}
-pub use Rattle.value_text.specs.declared.memory.OutOfMemory.{OutOfMemory}
+pub use Rattle.value_bytes.specs.declared.memory.OutOfMemory.{OutOfMemory}

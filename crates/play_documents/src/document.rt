@@ -18,8 +18,8 @@ use script_events::{Ending, Events, Transcript};
 use script_runs::Running;
 use script_scenarios::{Document, Scenario};
 use std::alloc::Global;
+use value_bytes::{Bytes, OutOfMemory};
 use value_requests::Client;
-use value_text::{Bytes, OutOfMemory};
 
 // How a run has ended, whose script has played to its end or to a limit, or was refused memory.
 fn ended_by(played: Result<Option<Ending>, OutOfMemory>) -> Ending

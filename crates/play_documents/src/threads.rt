@@ -16,7 +16,7 @@ use std::alloc::Global;
 use std::sync::Wait;
 use std::thread::Threads;
 use std::{mem, thread};
-use value_text::{Bytes, Items, OutOfMemory};
+use value_bytes::{Bytes, Items, OutOfMemory};
 
 // A document, in its row.
 fn play_row<F: Fetcher, S: Share, L: Link>(

@@ -41,7 +41,8 @@ use Rattle.policy_preflight.specs.declared.answer.Checked.{Checked}
 use Rattle.policy_preflight.specs.declared.answer.Checked.TheVariants.{Pass, Refused}
 use Rattle.policy_preflight.specs.Preflight.{preflight_of}
 use Rattle.policy_preflight.specs.Verdict.{age_of, allows_authorization, allows_method, first_refused, methods_of}
-use Rattle.policy_preflight.specs.Verdict.{names_of as header_names_of, unless_refused, verdict, verdict_by, verdict_where}
+use Rattle.policy_preflight.specs.Verdict.{names_of as header_names_of, unless_refused, verdict, verdict_by}
+use Rattle.policy_preflight.specs.Verdict.{verdict_where}
 use Rattle.policy_filter.specs.Blocks.{is_nosniff_blocked, is_type_blocked}
 use Rattle.policy_filter.specs.Filtered.{filtered, filtered_by}
 use Rattle.policy_filter.specs.Laws.{is_fetch}

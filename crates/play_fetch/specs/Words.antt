@@ -18,6 +18,6 @@ pub use Rattle.fetch_wire.specs.Wires.{over_link}
 pub use Rattle.script_events.specs.declared.events.Event.{Event}
 pub use Rattle.script_runs.specs.Play.{events_of}
 pub use Rattle.script_runs.specs.Runs.{Progress, after_events, at_time}
-pub use Rattle.value_text.specs.declared.memory.OutOfMemory.{OutOfMemory}
+pub use Rattle.value_bytes.specs.declared.memory.OutOfMemory.{OutOfMemory}
 pub use Rattle.value_requests.specs.Requests.{IsClient, IsRequest}
 pub use Rattle.value_requests.specs.Targets.{IsSendable}

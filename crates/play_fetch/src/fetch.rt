@@ -19,9 +19,9 @@ use play_definitions::{FetchRun, Fetcher, Lent, Player};
 use policy_csp::Compiled;
 use script_runs::Running;
 use std::alloc::Global;
+use value_bytes::OutOfMemory;
 use value_places::Boxed;
 use value_requests::{Client, Cookies, Outcome, Request};
-use value_text::OutOfMemory;
 
 // Shows what came of an act, and takes the fetch on from its input.
 #[inline(always)]

@@ -27,7 +27,7 @@ pub use Rattle.script_runs.specs.Play.{Play}
 pub use Rattle.script_runs.specs.Runs.{Next, Progress, after_events, asked, command_started, embed, fault_event}
 pub use Rattle.script_runs.specs.Runs.{fetch_started, fetched, limit_before, outcome_event, repeated, script_run}
 pub use Rattle.script_runs.specs.Runs.{showing, start_event, started, unless_limit}
-pub use Rattle.value_text.specs.declared.memory.OutOfMemory.{OutOfMemory}
+pub use Rattle.value_bytes.specs.declared.memory.OutOfMemory.{OutOfMemory}
 pub use Rattle.value_requests.specs.declared.fault.TypeFault.{TypeFault}
 pub use Rattle.value_requests.specs.declared.request.Request.{Request}
 pub use Rattle.value_requests.specs.declared.response.Outcome.{Outcome}

@@ -18,5 +18,5 @@ pub use Rattle.script_runs.specs.Runs.{limit_before, most_commands, most_fetches
 pub use Rattle.script_runs.specs.Runs.{unless_limit}
 pub use Rattle.fetch_requests.specs.Loading.{new_load}
 pub use Rattle.fetch_requests.specs.Making.{new_request}
-pub use Rattle.value_text.specs.declared.memory.OutOfMemory.{OutOfMemory}
+pub use Rattle.value_bytes.specs.declared.memory.OutOfMemory.{OutOfMemory}
 pub use Rattle.value_requests.specs.Requests.{IsClient, IsRequest}

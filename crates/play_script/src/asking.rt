@@ -16,8 +16,8 @@ use play_definitions::{Fetcher, Lent, Player};
 use script_events::{Ending, Event};
 use script_filling::{filled_init, filled_load, is_plain, is_plain_load};
 use script_runs::{fault_event, outcome_event};
+use value_bytes::OutOfMemory;
 use value_requests::{Destination, Init, LoadInit, Request, TypeFault};
-use value_text::OutOfMemory;
 
 // The request of what a script asks of `fetch`, with the parts of the last result in the place of its placeholders, or
 // why there is none (Fetch, sections 5.4 and 5.6).

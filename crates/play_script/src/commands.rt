@@ -12,7 +12,7 @@ use play_definitions::{Fetcher, Player};
 use script_commands::{Command, Script, Test};
 use script_events::Ending;
 use script_filling::holds;
-use value_text::OutOfMemory;
+use value_bytes::OutOfMemory;
 
 // One of two scripts, by a condition on the last result.
 #[cycle(script)]

@@ -10,7 +10,7 @@ use book_calls::{Book, Op};
 use book_hosts::Sts;
 use script_scenarios::KnownHost;
 use std::alloc::Global;
-use value_text::OutOfMemory;
+use value_bytes::OutOfMemory;
 
 // Notes a host at the time 0.
 fn note_host(alloc: Global, book: &mut Book, known: &KnownHost) -> Result<(), OutOfMemory>

@@ -12,7 +12,7 @@ use link_routes::Links;
 use play_definitions::Seating;
 use script_scenarios::Scenario;
 use std::alloc::Global;
-use value_text::OutOfMemory;
+use value_bytes::OutOfMemory;
 
 /// A play that is open: its book, the seats of its documents, in order, and the first pass of the book, behind which
 /// there is room for those of the seats.

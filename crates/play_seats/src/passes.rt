@@ -6,7 +6,7 @@ ghost use Rattle.play_seats.specs.Passes.{ArePasses, IsFirst};
 use book_calls::Book;
 use book_turns::{TurnBook, TurnPass};
 use std::alloc::Global;
-use value_text::OutOfMemory;
+use value_bytes::OutOfMemory;
 
 /// Makes passes of a shared book for so many documents, in order, at most 128. The first pass of the book, on which no
 /// call was made and which has made no other pass, has made just these then. Where memory is refused those that were

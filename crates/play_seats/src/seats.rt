@@ -9,7 +9,7 @@ use book_turns::TurnPass;
 use link_routes::{Links, Routes};
 use play_definitions::Seating;
 use std::alloc::Global;
-use value_text::OutOfMemory;
+use value_bytes::OutOfMemory;
 
 /// Seats the documents of these passes, at most 128: makes the link of each by these routes, in order, and puts it
 /// beside the pass. There are no seats yet, and there is room for as many. Where a link cannot be made, those made

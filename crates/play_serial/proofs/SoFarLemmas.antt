@@ -8,7 +8,7 @@ use Rattle.std.specs.Prelude.{Some}
 use Rattle.value_lemmas.proofs.Lists.{AllByRecursion-append}
 use Rattle.book_calls.proofs.EntryLemmas.{book-on, each-document, entries_of-all, entries_of-append, entries_of-none}
 use Rattle.book_calls.proofs.EntryLemmas.{legal-on}
-use Rattle.book_calls.specs.Entries.{HasTurnsFrom, Legal, book_after, entries_of}
+use Rattle.book_calls.specs.Entries.{AreInOrderFrom, HasTurnsFrom, Legal, book_after, entries_of}
 use Rattle.book_calls.specs.Solo.{AreOf, Solo, solo_account}
 use Rattle.book_calls.specs.declared.book.Book.{Book}
 use Rattle.book_calls.specs.declared.entry.Entry.{Entry}
@@ -50,6 +50,20 @@ named-more number entries more earlier of =
     AllByRecursion-append (λ (e : Entry). e.document < number + 1) entries more
     (each-document (λ n. n < number) (λ n. n < number + 1) entries (λ n lt. omega (arith, lt)) earlier)
     (each-document (λ n. n ≡ number) (λ n. n < number + 1) more (λ n at. omega (arith, at)) of)
+
+-- those of one document are in order, from each before it on
+of-in-order : (first number : ℕ) (entries : List Entry) → first ≤ number → AreOf number entries
+    → AreInOrderFrom first entries
+of-in-order first number [] le of = tt
+of-in-order first number (e ∷ es) le of =
+    (omega (arith, le, of.0), of-in-order e.document number es (omega (arith, of.0)) of.1)
+
+-- and so they are behind those of earlier documents
+order-more : (first number : ℕ) (entries more : List Entry) → first ≤ number → AreInOrderFrom first entries
+    → AreEarlier number entries → AreOf number more → AreInOrderFrom first (entries ++ more)
+order-more first number [] more le order earlier of = of-in-order first number more le of
+order-more first number (e ∷ es) more le order earlier of =
+    (order.0, order-more e.document number es more (omega (arith, earlier.0)) order.1 earlier.1 of)
 
 -- ---- transcripts
 
@@ -146,6 +160,8 @@ module _ (scenario : Scenario) (number : ℕ) (old : SoFar) (document : Document
             (subst (λ (b : Book). Legal b more) opening legal) turns;
         turns = turns;
         named = subst (AreEarlier (number + 1)) (sym grown) (named-more number old.history more came.named mine);
+        in_order = subst (AreInOrderFrom 0) (sym grown)
+            (order-more 0 number old.history more (omega arith) came.in_order came.named mine);
         runs = rw (added) (one-more-came scenario new.history number old.transcripts document transcript at
             (rw (grown) (each-stays scenario number old.history more mine
             (omega (arith, length-take number scenario.documents)) came.runs))
@@ -163,6 +179,7 @@ none-came scenario so_far book_is none empty = record {
   legal = rw (none) tt;
   turns = rw (none) tt;
   named = rw (none) tt;
+  in_order = rw (none) tt;
   runs = rw (empty) EachDocument.none;
   told = rw (empty) (All-nil (λ (t : Transcript). t.ending ≢ Memory));
 }

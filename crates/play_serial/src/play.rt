@@ -1,5 +1,6 @@
 // A play of documents one after another.
 ghost use Rattle.std.specs.Prelude.{◌+◌, ◌<◌, length, IfOk};
+ghost use Rattle.book_calls.specs.Entries.{AreInOrderFrom};
 ghost use Rattle.play_definitions.specs.Plays.{IsPlay};
 ghost use Rattle.play_serial.specs.Private.SoFar.{CameSoFar};
 ghost use Rattle.script_events.specs.Endings.{HasText};
@@ -14,7 +15,7 @@ use play_servers::SimLink;
 use script_events::{Ending, Transcripts};
 use script_scenarios::Scenario;
 use std::alloc::Global;
-use value_text::OutOfMemory;
+use value_bytes::OutOfMemory;
 
 // A play so far: the book, its history, and what the documents have shown.
 #[derive(Drop)]
@@ -66,11 +67,12 @@ fn play_next(
 }
 
 /// Plays a scenario over its own servers, from its own time on: its documents one after another, over one book, which
-/// opens with the scenario's hosts. It is a play as `play_scripted` of `play_whole` makes one, and returns. `OutOfMemory`
-/// where memory was refused, to a document or to what surrounds them.
+/// opens with the scenario's hosts. It is a play as `play_scripted` of `play_whole` makes one, and returns.
+/// `OutOfMemory` where memory was refused, to a document or to what surrounds them.
 pub fn play_in_turn(alloc: Global, scenario: &Scenario) -> Result<Played, OutOfMemory>
     requires { IsValid scenario.now }
     ensures played { IfOk result (λ played. IsPlay scenario.entry.now played.transcripts played.history) }
+    ensures in_order { IfOk result (λ played. AreInOrderFrom 0 played.history) }
     ensures has_text { IfOk result (λ played. HasText played.transcripts) }
 {
     let book = opened(alloc, scenario.hosts.as_slice())?;

@@ -10,7 +10,7 @@ use link_routes::{Links, Routes};
 use script_scenarios::{Scenario, Servers};
 use std::alloc::Global;
 use std::marker::Model;
-use value_text::OutOfMemory;
+use value_bytes::OutOfMemory;
 
 /// Links to the scripted servers of a scenario, each like the other. One can always be made, and none
 /// fails.

@@ -6,7 +6,7 @@ ghost use Rattle.script_events.specs.Escapes as spec;
 
 use crate::page::Page;
 use script_events::{are_plain, is_plain};
-use value_text::OutOfMemory;
+use value_bytes::OutOfMemory;
 
 // How many bytes are looked at together.
 const BLOCK: usize = 512;

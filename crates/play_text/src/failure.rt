@@ -1,6 +1,6 @@
 // Why a text was not printed whole.
 use link_traits::WriteFault;
-use value_text::OutOfMemory;
+use value_bytes::OutOfMemory;
 
 /// Why a text was not printed whole.
 #[derive(Clone, Copy, Debug, PartialEq, Eq)]

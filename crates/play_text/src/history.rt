@@ -7,7 +7,7 @@ use crate::lines::{add_call, add_number};
 use crate::page::Page;
 use book_calls::Entry;
 use std::alloc::Global;
-use value_text::{Bytes, OutOfMemory};
+use value_bytes::{Bytes, OutOfMemory};
 
 // Adds an entry of the history.
 fn add_entry(text: &mut Page, entry: &Entry) -> Result<(), OutOfMemory>

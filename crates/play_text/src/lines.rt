@@ -10,7 +10,7 @@ use crate::page::Page;
 use book_calls::{Op, Reply};
 use itoa::{Buffer, Integer};
 use script_events::{Event, Receiver, tell_call, tell_event};
-use value_text::OutOfMemory;
+use value_bytes::OutOfMemory;
 
 /// Adds a number in decimal to a text. Where memory is refused the text is any.
 pub fn add_number<I: Integer>(text: &mut Page, number: I) -> Result<(), OutOfMemory>

@@ -4,7 +4,7 @@ ghost use Rattle.std.specs.Prelude.{◌≡◌, ◌++◌, [], IfOk, OnOk};
 use arrayvec::ArrayVec;
 use std::alloc::Global;
 use std::marker::Model;
-use value_text::{Bytes, OutOfMemory};
+use value_bytes::{Bytes, OutOfMemory};
 
 // How many bytes are gathered.
 const ROW: usize = 1_024;

@@ -16,7 +16,7 @@ use book_calls::{Entry, History};
 use link_traits::{Sink, write_whole};
 use script_events::{Ending, Event, Transcript, Transcripts};
 use std::alloc::Global;
-use value_text::{Bytes, OutOfMemory};
+use value_bytes::{Bytes, OutOfMemory};
 
 // How many entries of the history are written together.
 const TOGETHER: usize = 256;

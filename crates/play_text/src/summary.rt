@@ -17,8 +17,8 @@ use itoa::Integer;
 use link_traits::Sink;
 use script_events::{Event, Transcript, Transcripts};
 use std::alloc::Global;
+use value_bytes::{Bytes, OutOfMemory};
 use value_requests::Outcome;
-use value_text::{Bytes, OutOfMemory};
 
 // A kind of events that are counted.
 #[derive(Clone, Copy)]

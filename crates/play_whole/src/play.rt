@@ -23,7 +23,7 @@ use script_scenarios::Scenario;
 use std::alloc::Global;
 use std::sync::Wait;
 use std::thread::Threads;
-use value_text::OutOfMemory;
+use value_bytes::OutOfMemory;
 
 // Plays each document on its seat, takes the links back, in order of documents, and closes the book.
 fn play_seated<R: Threads + Wait + Sync, N: Links>(

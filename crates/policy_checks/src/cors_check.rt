@@ -4,9 +4,9 @@ ghost use Rattle.policy_checks.specs.CorsCheck as spec;
 
 use crate::request_origin::serialized_origin;
 use std::alloc::Global;
+use value_bytes::OutOfMemory;
 use value_headers::HeaderList;
 use value_requests::Request;
-use value_text::OutOfMemory;
 
 // Whether any origin is allowed.
 fn allows_any(headers: &HeaderList) -> bool

@@ -5,9 +5,9 @@ ghost use Rattle.policy_checks.specs.OriginHeader as spec;
 use crate::request_origin::serialized_origin;
 use std::alloc::Global;
 use url::Url;
+use value_bytes::{Bytes, OutOfMemory};
 use value_origins::{Origin, is_origin_of};
 use value_requests::{Referrer, ReferrerPolicy, Request, is_get_or_head};
-use value_text::{Bytes, OutOfMemory};
 
 // Whether it goes from an https origin to a URL that is not https.
 fn is_downgrade(origin: &Origin, url: &Url) -> bool

@@ -4,9 +4,9 @@ ghost use Rattle.policy_checks.specs.RequestOrigins as spec;
 
 use std::alloc::Global;
 use url::Url;
+use value_bytes::{Bytes, OutOfMemory};
 use value_origins::{Origin, have_same_origin, is_origin_of, serialize};
 use value_requests::Request;
-use value_text::{Bytes, OutOfMemory};
 
 // Whether a redirect from one URL to the next taints the request's origin.
 fn taints(origin: &Origin, url: &Url, next: &Url) -> bool

@@ -5,10 +5,10 @@ ghost use Rattle.value_requests.specs.Requests.{IsRequest};
 ghost use Rattle.policy_checks.specs.ResourcePolicy as spec;
 
 use std::alloc::Global;
+use value_bytes::OutOfMemory;
 use value_headers::HeaderList;
 use value_origins::{Origin, same_origin, same_site, tuple_origin};
 use value_requests::Request;
-use value_text::OutOfMemory;
 
 // Whether Cross-Origin-Resource-Policy is this text.
 fn has_resource_policy(headers: &HeaderList, text: &[u8]) -> bool

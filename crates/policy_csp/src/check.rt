@@ -12,9 +12,9 @@ use crate::listed::passes;
 use policy_integrity::{Metadata, parse_metadata};
 use std::alloc::Global;
 use url::Url;
+use value_bytes::{Bytes, Items, OutOfMemory};
 use value_origins::{Origin, is_http_url};
 use value_requests::{Destination, Request, Violation, strip};
-use value_text::{Bytes, Items, OutOfMemory};
 
 /// Violations, in the order of the policies.
 pub type Violations = Items<Violation>;

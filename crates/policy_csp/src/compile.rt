@@ -8,7 +8,8 @@ use policy_csp_match::{SourceList, parse_source};
 use policy_csp_text::{Directive, Policies, Policy, Words, first_word};
 use std::alloc::Global;
 use std::snapshot::Snapshot;
-use value_text::{Items, OutOfMemory, is_among};
+use value_bytes::{Items, OutOfMemory};
+use value_text::is_among;
 
 // The names that are asked for: those of all fallback lists, and that of the directive that upgrades.
 const ASKED_NAMES: [&[u8]; 11] = [

@@ -5,7 +5,7 @@ use policy_csp_match::SourceList;
 use policy_csp_text::Policies;
 use std::marker::Model;
 use std::snapshot::Snapshot;
-use value_text::{Bytes, Items};
+use value_bytes::{Bytes, Items};
 
 /// A directive with its words read as source expressions.
 #[derive(Drop)]

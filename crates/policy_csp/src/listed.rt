@@ -12,9 +12,9 @@ use policy_csp_match::{Source, SourceList};
 use policy_integrity::{HashExpression, Metadata};
 use std::alloc::Global;
 use std::collections::BTreeSet;
+use value_bytes::OutOfMemory;
 use value_origins::Origin;
 use value_requests::{Destination, Request};
-use value_text::OutOfMemory;
 
 /// For how many hash expressions at most the source list is looked through for each.
 const FEW: usize = 8;

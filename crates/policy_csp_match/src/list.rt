@@ -12,8 +12,8 @@ use crate::source::{HostSource, Part, Source, SourcePort};
 use std::alloc::Global;
 use std::marker::Model;
 use url::Url;
+use value_bytes::OutOfMemory;
 use value_origins::Origin;
-use value_text::OutOfMemory;
 
 /// Whether a host-source has a port-part, and which.
 #[derive(Clone, Copy)]

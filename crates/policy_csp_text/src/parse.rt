@@ -8,7 +8,8 @@ use crate::policy::{Directive, Directives, Policies, Policy};
 use crate::word_list::{Words, first_word};
 use std::alloc::Global;
 use std::collections::BTreeSet;
-use value_text::{OutOfMemory, in_lower_case, parts_between};
+use value_bytes::{OutOfMemory, in_lower_case};
+use value_text::parts_between;
 
 // Whether all bytes are ASCII.
 pub(crate) fn are_ascii(text: &[u8]) -> bool

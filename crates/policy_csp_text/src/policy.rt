@@ -1,6 +1,6 @@
 // Policies and their directives (CSP 3, sections 2.2 and 2.3).
 use crate::word_list::Words;
-use value_text::{Bytes, Items};
+use value_bytes::{Bytes, Items};
 
 /// A directive (CSP 3, section 2.3): its name, in lower case, and the words of its value.
 #[derive(Drop)]

@@ -7,7 +7,7 @@ ghost use Rattle.value_text.specs.Words.{words};
 
 use std::alloc::Global;
 use std::marker::Model;
-use value_text::OutOfMemory;
+use value_bytes::OutOfMemory;
 
 /// The words of a directive's value, seen as the list of them. They are kept as the text that they stand in, so that a
 /// word takes its bytes and what stands between it and the next.

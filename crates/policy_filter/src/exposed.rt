@@ -5,9 +5,9 @@ ghost use Rattle.policy_filter.specs.Private.Collecting.{with_new};
 ghost use Rattle.policy_filter.specs.Private.Exposing as private;
 
 use std::alloc::Global;
+use value_bytes::{Bytes, BytesList, OutOfMemory, has_text_fold};
 use value_headers::{Field, HeaderList};
-use value_lists::{Extracted, Rule, extract_values};
-use value_text::{Bytes, BytesList, OutOfMemory, has_text_fold, has_wildcard};
+use value_lists::{Extracted, Rule, extract_values, has_wildcard};
 
 /// The names of response headers that a CORS response exposes.
 #[derive(Drop)]

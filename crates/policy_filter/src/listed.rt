@@ -10,9 +10,9 @@ ghost use Rattle.value_requests.specs.TextSets.{has_text};
 use crate::exposed::Exposure;
 use crate::names::{has_safelisted_name, is_forbidden, is_safelisted};
 use std::alloc::Global;
+use value_bytes::{Bytes, BytesList, OutOfMemory};
 use value_headers::Field;
 use value_requests::TextSet;
-use value_text::{Bytes, BytesList, OutOfMemory};
 
 /// Where there are so many headers or exposed names at most, each header is compared with each name.
 const FEW: usize = 8;

@@ -4,8 +4,9 @@ ghost use Rattle.policy_filter.specs.Names as spec;
 ghost use Rattle.policy_checks.specs.PermittedNames as permitted;
 
 use policy_checks::has_name_among;
+use value_bytes::Bytes;
 use value_headers::Field;
-use value_text::{Bytes, eq_fold};
+use value_text::eq_fold;
 
 // The forbidden response-header names.
 const FORBIDDEN_NAMES: [&[u8]; 2] = [b"Set-Cookie", b"Set-Cookie2"];

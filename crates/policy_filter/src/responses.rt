@@ -11,9 +11,9 @@ use crate::exposed::{Exposure, exposure_of};
 use crate::keep::Keep;
 use crate::listed::exposed_in;
 use std::alloc::Global;
+use value_bytes::{Bytes, OutOfMemory};
 use value_headers::{HeaderList, PackedHeaders};
 use value_requests::{BodyEnd, Head, Request, Response, ResponseKind, Tainting, without_fragment};
-use value_text::{Bytes, OutOfMemory};
 
 // The URL of a response.
 fn response_url(alloc: Global, request: &Request) -> Result<Bytes, OutOfMemory>

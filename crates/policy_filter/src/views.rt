@@ -10,9 +10,9 @@ use crate::listed::exposed_in;
 use crate::responses::{exposure_to, without_forbidden};
 use policy_checks::{is_blocked, passes_check};
 use std::alloc::Global;
+use value_bytes::OutOfMemory;
 use value_headers::HeaderList;
 use value_requests::{Destination, Head, Hop, Request, Tainting, is_ok_status, is_redirect_status};
-use value_text::OutOfMemory;
 
 // The headers that following a redirect rests on.
 const REDIRECT_NAMES: [&[u8]; 2] = [b"Location", b"Referrer-Policy"];

@@ -9,7 +9,7 @@ use crate::metadata::{HashExpression, Metadata};
 use base64::engine::general_purpose::STANDARD;
 use sha2::{Digest, Sha256, Sha384, Sha512};
 use std::alloc::Global;
-use value_text::{Bytes, OutOfMemory};
+use value_bytes::{Bytes, OutOfMemory};
 
 // The greatest algorithm of the hash expressions.
 fn strongest_algorithm(metadata: &[HashExpression]) -> u32

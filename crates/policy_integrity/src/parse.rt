@@ -6,7 +6,8 @@ ghost use Rattle.policy_integrity.specs.Private.Collecting.{with_found};
 
 use crate::metadata::{HashExpression, Metadata};
 use std::alloc::Global;
-use value_text::{Bytes, OutOfMemory, after_byte, before_byte, is_base64_value, words};
+use value_bytes::{Bytes, OutOfMemory};
+use value_text::{after_byte, before_byte, is_base64_value, words};
 
 // The algorithm of a name, by its bits.
 fn algorithm_named(name: &[u8]) -> Option<u32>

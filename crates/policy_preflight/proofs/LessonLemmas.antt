@@ -19,7 +19,8 @@ use Rattle.policy_checks.specs.CorsCheck.{passes_cors_check}
 use Rattle.value_requests.specs.Requests.{IsRequest}
 use Rattle.value_requests.specs.Statuses.{is_ok_status}
 use Rattle.policy_preflight.specs.Laws.{IsLesson}
-use Rattle.policy_preflight.specs.Verdict.{age_of, allows_authorization, allows_method, first_refused, methods_of, names_of}
+use Rattle.policy_preflight.specs.Verdict.{age_of, allows_authorization, allows_method, first_refused, methods_of}
+use Rattle.policy_preflight.specs.Verdict.{names_of}
 use Rattle.policy_preflight.specs.Verdict.{unless_refused, verdict, verdict_by, verdict_of, verdict_where}
 use Rattle.policy_preflight.specs.declared.answer.Checked.TheVariants.{Pass}
 

@@ -1,5 +1,6 @@
 -- The text of a request's origin is never `*`.
-use Rattle.std.proofs.Common.{◌≡◌, ◌≢◌, ℕ, ◌++◌, Bool, true, false, List, ap, arith, codes, cond, length, length-append, refl}
+use Rattle.std.proofs.Common.{◌≡◌, ◌≢◌, ℕ, ◌++◌, Bool, true, false, List, ap, arith, codes, cond, length, length-append}
+use Rattle.std.proofs.Common.{refl}
 use Rattle.policy_checks.specs.RequestOrigins.{has_tainted_origin, serialized_request_origin}
 use Rattle.value_origins.specs.Origins.{host_text, port_text, serialized}
 use Rattle.value_origins.specs.declared.origin.Origin.{Origin}

@@ -6,8 +6,8 @@ ghost use Rattle.policy_preflight.specs.Verdict as spec;
 ghost use Rattle.value_requests.specs.TextSets.{has_text};
 
 use std::alloc::Global;
+use value_bytes::{Bytes, OutOfMemory, has_text_fold};
 use value_requests::TextSet;
-use value_text::{Bytes, OutOfMemory, has_text_fold};
 
 /// Where a request has so many names at most, or so many are allowed, each is compared with each.
 const FEW: usize = 8;

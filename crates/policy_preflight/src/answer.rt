@@ -6,12 +6,11 @@ ghost use Rattle.policy_preflight.specs.Verdict as spec;
 use crate::allowed::{first_unlisted, has_name};
 use policy_checks::passes_cors_check;
 use std::alloc::Global;
+use value_bytes::{Bytes, BytesList, OutOfMemory, has_text};
 use value_headers::HeaderList;
-use value_lists::{Extracted, Rule, extract_values};
+use value_lists::{Extracted, Rule, extract_values, has_wildcard};
 use value_requests::{Credentials, Head, NetError, Request, is_ok_status, is_safelisted_method};
-use value_text::{
-    AUTHORIZATION, Bytes, BytesList, OutOfMemory, has_text, has_wildcard, parse_digits,
-};
+use value_text::{AUTHORIZATION, parse_digits};
 
 /// The verdict on a preflight's answer.
 #[derive(Drop)]

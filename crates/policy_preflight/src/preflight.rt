@@ -10,12 +10,12 @@ ghost use Rattle.policy_preflight.specs.Preflight as spec;
 use policy_checks::{referrer_value, serialized_origin};
 use std::alloc::Global;
 use url::Url;
+use value_bytes::{Bytes, BytesList, OutOfMemory};
 use value_headers::PackedHeaders;
 use value_requests::{
     ACCEPT_ENCODING, CONNECTION, Hop, Request, USER_AGENT, append_where, host_value, origin_text,
     slice_of, target_of,
 };
-use value_text::{Bytes, BytesList, OutOfMemory};
 
 // How many lines a preflight has at most.
 const MOST_LINES: usize = 9;

@@ -6,9 +6,9 @@ ghost use Rattle.value_requests.specs.Requests.{is_http_url, is_policy};
 use crate::strip::{origin_only, whole};
 use std::alloc::Global;
 use url::Url;
+use value_bytes::OutOfMemory;
 use value_origins::{have_same_origin, is_trustworthy_url};
 use value_requests::ReferrerPolicy;
-use value_text::OutOfMemory;
 
 // Whether it goes from a potentially trustworthy URL to one that is not.
 fn is_downgrade(source: &Url, target: &Url) -> bool

@@ -7,8 +7,8 @@ ghost use Rattle.value_requests.specs.Requests.{is_http_url};
 ghost use Rattle.value_requests.specs.Urls.{IsWeb};
 
 use url::{ParseResult, Url};
+use value_bytes::OutOfMemory;
 use value_requests::strip;
-use value_text::OutOfMemory;
 
 // The longest text of a referrer, in bytes.
 const LONGEST: usize = 4096;

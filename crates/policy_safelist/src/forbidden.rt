@@ -4,8 +4,9 @@ ghost use Rattle.std.specs.List.{list_any};
 ghost use Rattle.policy_safelist.specs.Forbidden as spec;
 
 use std::alloc::Global;
+use value_bytes::{BytesList, OutOfMemory};
 use value_lists::split_value;
-use value_text::{BytesList, OutOfMemory, eq_fold, is_among_fold};
+use value_text::{eq_fold, is_among_fold};
 
 // The forbidden methods.
 const FORBIDDEN_METHODS: [&[u8]; 3] = [b"CONNECT", b"TRACE", b"TRACK"];

@@ -6,8 +6,9 @@ ghost use Rattle.policy_safelist.specs.Guards as spec;
 use crate::forbidden::is_forbidden_header;
 use crate::safelisted::is_safelisted;
 use std::alloc::Global;
+use value_bytes::{Bytes, OutOfMemory};
 use value_headers::HeaderList;
-use value_text::{Bytes, OutOfMemory, is_among_fold, is_token, is_value};
+use value_text::{is_among_fold, is_token, is_value};
 
 /// The guard of a Headers object (Fetch, section 5.1).
 #[derive(Clone, Copy, Debug, PartialEq, Eq)]

@@ -6,7 +6,7 @@ ghost use Rattle.value_text.specs.Texts.{Text};
 ghost use Rattle.value_text.specs.Orders.{text_cmp};
 
 use std::alloc::Global;
-use value_text::{Bytes, BytesList, OutOfMemory};
+use value_bytes::{Bytes, BytesList, OutOfMemory};
 
 // Puts the texts in ascending order of their bytes, each once.
 pub(crate) fn sort_and_dedup(texts: &mut Vec<Vec<u8>>)

@@ -7,8 +7,8 @@ ghost use Rattle.policy_safelist.specs.UnsafeNames as spec;
 use crate::safelisted::is_safelisted;
 use crate::sets::{listed, sort_and_dedup};
 use std::alloc::Global;
+use value_bytes::{BytesList, OutOfMemory, in_lower_case};
 use value_headers::{Field, HeaderList};
-use value_text::{BytesList, OutOfMemory, in_lower_case};
 
 // How many bytes the values of the safelisted headers may have together.
 const LONGEST_TOTAL: usize = 1024;

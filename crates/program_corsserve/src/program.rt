@@ -16,7 +16,7 @@ use program_shell::{Status, read_as, read_input};
 use server_tables::{AllowTable, BadLine, read_table};
 use server_words::{Task, task_of};
 use std::alloc::Global;
-use value_text::OutOfMemory;
+use value_bytes::OutOfMemory;
 
 /// The longest input that is read, in bytes.
 const MOST_INPUT: usize = 1_048_832;

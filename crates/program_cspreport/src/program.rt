@@ -22,7 +22,7 @@ use script_scenarios::Scenario;
 use std::alloc::Global;
 use std::sync::Wait;
 use std::thread::Threads;
-use value_text::{Bytes, OutOfMemory};
+use value_bytes::{Bytes, OutOfMemory};
 
 /// The longest input that is read, in bytes.
 const MOST_INPUT: usize = 4_194_304;

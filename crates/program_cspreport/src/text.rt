@@ -11,7 +11,7 @@ use report_play::Reported;
 use script_events::{Event, Transcript};
 use script_filling::is_result;
 use std::alloc::Global;
-use value_text::{Bytes, OutOfMemory};
+use value_bytes::{Bytes, OutOfMemory};
 
 // Adds how a delivery ended.
 fn add_ending(text: &mut Page, ending: DeliveredEnd) -> Result<(), OutOfMemory>

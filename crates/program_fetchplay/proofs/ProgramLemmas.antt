@@ -25,7 +25,8 @@ use Rattle.script_reading.specs.Scenarios.{scenario_of}
 use Rattle.script_reading.specs.declared.place.Place.{Place}
 use Rattle.script_events.specs.declared.events.Transcript.{Transcript}
 use Rattle.script_scenarios.specs.declared.scenario.Scenario.{Scenario}
-use Rattle.program_fetchplay.specs.Program.{Answers, AnswersCount, IsLinked, IsOver, IsPlayText, IsScripted, IsSummary, IsSummed}
+use Rattle.program_fetchplay.specs.Program.{Answers, AnswersCount, IsLinked, IsOver, IsPlayText, IsScripted, IsSummary}
+use Rattle.program_fetchplay.specs.Program.{IsSummed}
 use Rattle.program_fetchplay.specs.Program.{IsUntouched, IsVerdict, most_input}
 use Rattle.program_fetchplay.specs.Statuses.{complaint, written_status}
 use Rattle.program_fetchplay.specs.Streams.{Net}

@@ -34,7 +34,7 @@ use std::alloc::Global;
 use std::mem::forget;
 use std::sync::Wait;
 use std::thread::Threads;
-use value_text::OutOfMemory;
+use value_bytes::OutOfMemory;
 
 /// The longest input that is read, in bytes.
 const MOST_INPUT: usize = 4_194_304;

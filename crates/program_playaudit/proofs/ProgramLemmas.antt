@@ -5,7 +5,8 @@ use Rattle.link_traits.specs.Sinks.{SinkTold}
 use Rattle.link_traits.specs.Sources.{SourceTold}
 use Rattle.audit_verdict.specs.declared.verdict.Verdict.{Verdict}
 use Rattle.audit_verdict.specs.declared.verdict.Verdict.TheVariants as verdict
-use Rattle.program_shell.proofs.ProgramLemmas.{Ends, IsOwn, IsReading, answer-by, answer-or, answer-told, answer-verdict}
+use Rattle.program_shell.proofs.ProgramLemmas.{Ends, IsOwn, IsReading, answer-by, answer-or, answer-told}
+use Rattle.program_shell.proofs.ProgramLemmas.{answer-verdict}
 use Rattle.program_shell.proofs.ProgramLemmas.{answer-write, done-read, done-usage, done-write, input-answers}
 use Rattle.program_shell.specs.Complaints.{IsAnswer}
 use Rattle.program_shell.specs.Sinks.{Failed}

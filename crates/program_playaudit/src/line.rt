@@ -5,7 +5,7 @@ ghost use Rattle.program_playaudit.specs.Statuses as spec;
 use audit_verdict::Verdict;
 use itoa::Buffer;
 use std::alloc::Global;
-use value_text::{Bytes, OutOfMemory};
+use value_bytes::{Bytes, OutOfMemory};
 
 // Adds a name, a space and a number.
 fn add_numbered(line: &mut Bytes, name: &[u8], number: u64) -> Result<(), OutOfMemory>

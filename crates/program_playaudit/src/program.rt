@@ -11,7 +11,7 @@ use audit_verdict::{Verdict, audit};
 use link_traits::{Sink, Source};
 use program_shell::{Status, read_input, write_text};
 use std::alloc::Global;
-use value_text::OutOfMemory;
+use value_bytes::OutOfMemory;
 
 /// The longest input that is read, in bytes.
 const MOST_INPUT: usize = 67_108_864;

@@ -6,7 +6,7 @@ ghost use Rattle.program_shell.specs.Inputs.{IsGiven, IsStopped};
 use crate::status::Status;
 use link_traits::{ReadStop, Source, read_whole};
 use std::alloc::Global;
-use value_text::{Bytes, OutOfMemory};
+use value_bytes::{Bytes, OutOfMemory};
 
 /// Reads an input whole, which has at most so many bytes. Else the verdict on it: `ReadFault` where the input failed,
 /// `InputTooLong` where one byte more was read, and `OutOfMemory`.

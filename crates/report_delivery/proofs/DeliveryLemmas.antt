@@ -2,7 +2,7 @@
 use Rattle.std.proofs.Common.{◌≡◌, ℕ, List, [], ◌∷◌, ◌++◌, Option, Some, None, refl, ap, sym, subst, ◌∙◌, arith}
 use Rattle.std.proofs.Common.{append_assoc, Result, Ok, Err}
 use Rattle.std.specs.Result.{IsErr}
-use Rattle.value_text.specs.declared.memory.OutOfMemory.{OutOfMemory}
+use Rattle.value_bytes.specs.declared.memory.OutOfMemory.{OutOfMemory}
 use Rattle.std.proofs.lemmas.List.{append-nil}
 use Rattle.fetch_acts.specs.declared.act.Input.{Input}
 use Rattle.fetch_definitions.specs.Fetch.{fetch}

@@ -1,6 +1,6 @@
 -- What the delivery of a document's reports comes to in its world.
 use Rattle.std.specs.Prelude.{ℕ, List, Result, Ok, Err}
-use Rattle.value_text.specs.declared.memory.OutOfMemory.{OutOfMemory}
+use Rattle.value_bytes.specs.declared.memory.OutOfMemory.{OutOfMemory}
 use Rattle.play_definitions.specs.Playing.{RunCut, RunPlayed}
 use Rattle.play_definitions.specs.Worlds.{Outside}
 use Rattle.script_events.specs.declared.events.Event.{Event}

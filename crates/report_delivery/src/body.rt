@@ -7,8 +7,8 @@ ghost use Rattle.report_delivery.specs.Reports as spec;
 use serde_json::{Value, json};
 use std::alloc::Global;
 use url::Url;
+use value_bytes::{Bytes, OutOfMemory};
 use value_requests::{Violation, utf8_text, without_fragment};
-use value_text::{Bytes, OutOfMemory};
 
 // "disposition": enforced, or report-only.
 fn disposition(enforced: bool) -> &'static str

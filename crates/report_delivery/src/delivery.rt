@@ -25,8 +25,8 @@ use script_runs::Shown;
 use script_scenarios::{Document, Scenario};
 use std::alloc::Global;
 use std::marker::Model;
+use value_bytes::OutOfMemory;
 use value_requests::Client;
-use value_text::OutOfMemory;
 
 /// How many reports of a document are played at most.
 const MOST_REPORTS: u32 = 1_024;

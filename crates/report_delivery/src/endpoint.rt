@@ -6,9 +6,9 @@ ghost use Rattle.value_text.specs.Words.{words};
 use policy_csp_text::{Directive, Policies};
 use std::alloc::Global;
 use url::Url;
+use value_bytes::OutOfMemory;
 use value_origins::is_http_url;
 use value_requests::{has_credentials, is_short_url, url_against};
-use value_text::OutOfMemory;
 
 /// The directive whose words say where.
 const REPORT_URI: &[u8] = b"report-uri";

@@ -12,13 +12,13 @@ use script_events::Event;
 use script_scenarios::Document;
 use std::alloc::Global;
 use url::Url;
+use value_bytes::{Bytes, OutOfMemory};
 use value_headers::HeaderList;
 use value_origins::tuple_origin;
 use value_requests::{
     Credentials, Destination, Mode, RedirectMode, Referrer, ReferrerPolicy, Request, Tainting,
     Urls, Violation,
 };
-use value_text::{Bytes, OutOfMemory};
 
 // The headers of a report.
 fn report_headers(alloc: Global) -> Result<HeaderList, OutOfMemory>

@@ -9,8 +9,8 @@ use crate::queue::Queue;
 use script_events::{Event, Transcript};
 use script_scenarios::{Document, Scenario};
 use std::alloc::Global;
+use value_bytes::{Items, OutOfMemory};
 use value_requests::Request;
-use value_text::{Items, OutOfMemory};
 
 /// The reports of a document, in order.
 pub type Reports = Items<Request>;

@@ -3,10 +3,9 @@ use Rattle.std.proofs.Common.{◌≡◌, ◌≢◌, ℕ, ◌+◌, ◌<◌, ◌�
 use Rattle.std.specs.List.{AllByRecursion}
 use Rattle.std.proofs.lemmas.List.{append-nil}
 use Rattle.book_calls.specs.declared.entry.Entry.{Entry}
-use Rattle.book_calls.specs.Entries.{entries_of}
+use Rattle.book_calls.specs.Entries.{AreInOrderFrom, entries_of}
 use Rattle.book_calls.specs.Solo.{AreOf}
 use Rattle.book_calls.proofs.EntryLemmas.{each-document, entries_of-all, entries_of-append, entries_of-none}
-use Rattle.report_play.specs.Plays.{AreInOrderFrom}
 
 -- ---- the entries of a document
 

@@ -8,7 +8,7 @@ use Rattle.std.proofs.lemmas.List.Elements.{All-nil, All-cons, All-head, All-tai
 use Rattle.value_lemmas.proofs.Lists.{AllByRecursion-append}
 use Rattle.book_calls.specs.declared.book.Book.{Book}
 use Rattle.book_calls.specs.declared.entry.Entry.{Entry}
-use Rattle.book_calls.specs.Entries.{HasTurnsFrom, Legal, book_after, entries_of}
+use Rattle.book_calls.specs.Entries.{AreInOrderFrom, HasTurnsFrom, Legal, book_after, entries_of}
 use Rattle.book_calls.specs.Solo.{AreOf}
 use Rattle.book_calls.proofs.EntryLemmas.{book-on, each-document, legal-on}
 use Rattle.play_definitions.specs.Plays.{IsPlay, IsPlayOver, IsTranscript, RunsOver, Way, by_rules, opening_book}
@@ -28,7 +28,7 @@ use Rattle.play_seats.proofs.ServerLemmas.{by_bytes, ran-by-rules, ran-state, si
 use Rattle.script_events.specs.Endings.{HasText}
 use Rattle.report_delivery.specs.declared.delivery.Delivered.{Delivered}
 use Rattle.report_delivery.specs.Reporting.{ending_of, reporting}
-use Rattle.report_play.specs.Plays.{AreInOrderFrom, EachReported, IsReported, IsReportedPlay}
+use Rattle.report_play.specs.Plays.{EachReported, IsReported, IsReportedPlay}
 use Rattle.report_play.specs.Private.Delivered.{CanReport, EachDelivered, IsDelivered, WasReported}
 use Rattle.report_play.proofs.ClockLemmas.{document-early, ran-early}
 use Rattle.report_play.proofs.HistoryLemmas.{order-above, order-from, order-of, own-among}

@@ -1,10 +1,10 @@
 -- A play of a scenario with the reports of its documents: a play of its scripts, and then, in order of documents, the
 -- run of each document's reports, over the scenario's servers and the same book (this project's own; a play, and
 -- what comes of acts, are play_definitions's definitions, and the run of reports is report_delivery's).
-use Rattle.std.specs.Prelude.{◌≡◌, ℕ, ◌+◌, ◌<◌, ◌≤◌, List, [], ◌∷◌, ◌++◌, length}
+use Rattle.std.specs.Prelude.{◌≡◌, ℕ, ◌+◌, ◌<◌, List, [], ◌∷◌, ◌++◌, length}
 use Rattle.std.specs.List.{AllByRecursion}
 use Rattle.book_calls.specs.declared.entry.Entry.{Entry}
-use Rattle.book_calls.specs.Entries.{HasTurnsFrom, Legal, entries_of}
+use Rattle.book_calls.specs.Entries.{AreInOrderFrom, HasTurnsFrom, Legal, entries_of}
 use Rattle.play_definitions.specs.Plays.{IsPlay, RunsOver, by_rules, opening_book, way_to_servers}
 use Rattle.report_delivery.specs.declared.delivery.Delivered.{Delivered}
 use Rattle.report_delivery.specs.Reporting.{ending_of, reporting}
@@ -30,11 +30,6 @@ pub data EachReported (Is : ℕ → Document → Transcript → Delivered → Ty
       {documents : List Document} {transcripts : List Transcript} {delivereds : List Delivered}
       → Is number document transcript delivered → EachReported Is (number + 1) documents transcripts delivereds
       → EachReported Is number (document ∷ documents) (transcript ∷ transcripts) (delivered ∷ delivereds)
-
--- the entries are in order of their documents, from this one on
-abbrev pub AreInOrderFrom : ℕ → List Entry → Type 0
-AreInOrderFrom number [] = Unit {0}
-AreInOrderFrom number (entry ∷ entries) = (number ≤ entry.document) × AreInOrderFrom entry.document entries
 
 -- A play of the scenario over its own servers, from its own time on, with the reports of its documents. Its one history
 -- is that of the scripts, which are a play, and then that of the reports, in order of documents. It is legal from the

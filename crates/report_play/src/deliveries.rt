@@ -12,7 +12,7 @@ use report_delivery::{Delivered, deliver};
 use script_events::{Transcript, Transcripts};
 use script_scenarios::Scenario;
 use std::alloc::Global;
-use value_text::{Items, OutOfMemory};
+use value_bytes::{Items, OutOfMemory};
 
 // The reports of one document, and the book and the history after them.
 #[derive(Drop)]

@@ -23,7 +23,7 @@ use script_scenarios::Scenario;
 use std::alloc::Global;
 use std::sync::Wait;
 use std::thread::Threads;
-use value_text::{Items, OutOfMemory};
+use value_bytes::{Items, OutOfMemory};
 
 /// What a play with reports has come to: what each document has shown, its reports, and the one history of the book.
 #[derive(Drop)]

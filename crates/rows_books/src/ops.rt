@@ -16,7 +16,7 @@ use book_calls::Op;
 use book_hosts::Sts;
 use rows_shell::{Failed, Row, Shown, named, number};
 use std::alloc::Global;
-use value_text::Bytes;
+use value_bytes::Bytes;
 
 /// Times and ages are below this.
 const LIMIT: u64 = 1 << 48;

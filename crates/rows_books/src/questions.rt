@@ -8,7 +8,7 @@ ghost use Rattle.std.specs.Prelude.{◌≤◌, IfOk};
 use book_preflights::{Lesson, Names, Question};
 use rows_shell::{Failed, Row, named, number, texts_between};
 use std::alloc::Global;
-use value_text::Bytes;
+use value_bytes::Bytes;
 
 /// The origin of all requests.
 pub(crate) const ORIGIN: &[u8] = b"http://a.test";

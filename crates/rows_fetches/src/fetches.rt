@@ -15,8 +15,8 @@ use rows_shell::{Failed, Held, Row, Shown, client_at};
 use script_events::Event;
 use server_tables::{AllowTable, answer};
 use std::alloc::Global;
+use value_bytes::{Bytes, BytesList};
 use value_requests::{BodyEnd, Client, Hop, NetError, Outcome, Response};
-use value_text::{Bytes, BytesList};
 
 /// How many bytes a link has room for of what it is asked.
 const ROOM: usize = 65_536;

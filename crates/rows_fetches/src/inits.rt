@@ -13,10 +13,11 @@ ghost use Rattle.value_requests.specs.Requests.{IsClient, IsRequest};
 use fetch_requests::new_request;
 use rows_shell::{Failed, has_word, named, value_of, values_of};
 use std::alloc::Global;
+use value_bytes::Bytes;
 use value_requests::{
     Client, Credentials, Init, Mode, Pair, Pairs, RedirectMode, ReferrerPolicy, Request,
 };
-use value_text::{Bytes, after_byte, before_byte};
+use value_text::{after_byte, before_byte};
 
 /// The credentials modes.
 const CREDENTIALS: [(&[u8], Credentials); 4] = [

@@ -17,8 +17,9 @@ use rows_links::{link_in, show_link};
 use rows_shell::{Failed, Held, Shown, client_at, number, request_of, value_of};
 use script_events::{Ending, Event, Transcript, Transcripts};
 use std::alloc::Global;
+use value_bytes::Bytes;
 use value_requests::{Client, Cookies, Request};
-use value_text::{Bytes, after_byte, before_byte};
+use value_text::{after_byte, before_byte};
 
 /// How many bytes of a body are read at most, where no word says it.
 pub(crate) const LIMIT: u32 = 262_144;

@@ -19,7 +19,7 @@ use script_scenarios::Scenario;
 use std::alloc::Global;
 use std::sync::Wait;
 use std::thread::Threads;
-use value_text::OutOfMemory;
+use value_bytes::OutOfMemory;
 
 // The seats of two documents.
 fn seats_of<'a>(

@@ -8,7 +8,7 @@ use crate::streams::numbers_of;
 use link_traits::{MemoryAccepts, MemoryEnd, MemorySink, MemorySource};
 use rows_shell::{Failed, Row};
 use std::alloc::Global;
-use value_text::Bytes;
+use value_bytes::Bytes;
 
 /// How many bytes each peer takes.
 const ROOM: usize = 4_096;

@@ -2,7 +2,8 @@
 // has the lines of each document, the first of which is `document N KEY`; a line `history`; and for each call of the
 // book a line `TURN N CALL`, where N is the number of its document and CALL is what was called and the reply.
 use rows_shell::{Shown, named};
-use value_text::{Bytes, after_byte, before_byte};
+use value_bytes::Bytes;
+use value_text::{after_byte, before_byte};
 
 // The index of the line `history`, or how many lines there are where it is missing.
 fn place_of_history(lines: &[Bytes]) -> usize {

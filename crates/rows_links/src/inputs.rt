@@ -17,7 +17,8 @@
 use crate::streams::words_of;
 use rows_shell::{Failed, Shown, has_word, named, number, unescaped, value_of};
 use std::alloc::Global;
-use value_text::{Bytes, after_byte, before_byte};
+use value_bytes::Bytes;
+use value_text::{after_byte, before_byte};
 
 /// How often a part of a scenario is repeated at most.
 const MOST_TIMES: u64 = 16_777_216;

@@ -9,7 +9,8 @@ use link_routes::MemoryLinks;
 use link_traits::MemoryLink;
 use rows_shell::{Failed, Held, Row, Shown, texts_between};
 use std::alloc::Global;
-use value_text::{BytesList, after_byte};
+use value_bytes::BytesList;
+use value_text::after_byte;
 
 /// How many bytes a link has room for of what it is asked.
 const ROOM: usize = 65_536;

@@ -14,7 +14,7 @@ use link_traits::{MemoryEnd, MemorySink, MemorySource, Source};
 use rows_shell::{Failed, Row, Shown, has_word, number, value_of};
 use server_tables::{AllowTable, Served, serve};
 use std::alloc::Global;
-use value_text::Bytes;
+use value_bytes::Bytes;
 
 /// How many bytes a peer takes, if no word says it.
 const ROOM: usize = 65_536;

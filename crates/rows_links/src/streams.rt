@@ -5,7 +5,8 @@
 use link_traits::{MemorySink, MemorySource};
 use rows_shell::{Failed, Held, Shown, number, value_of};
 use std::alloc::Global;
-use value_text::{Bytes, after_byte, before_byte};
+use value_bytes::Bytes;
+use value_text::{after_byte, before_byte};
 
 /// How many bytes the output and the complaints each have room for.
 const ROOM: usize = 16_777_216;

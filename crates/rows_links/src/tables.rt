@@ -2,7 +2,7 @@
 use rows_shell::{Failed, Row, Shown};
 use server_tables::{AllowTable, answer, read_table};
 use std::alloc::Global;
-use value_text::BytesList;
+use value_bytes::BytesList;
 
 /// The table that a text is.
 pub fn table_in(alloc: Global, text: &[u8]) -> Result<AllowTable, Failed> {

@@ -6,7 +6,7 @@ use link_traits::{Failed, Link, Target};
 use std::alloc::Global;
 use std::sync::atomic::{AtomicBool, Ordering};
 use std::thread;
-use value_text::OutOfMemory;
+use value_bytes::OutOfMemory;
 
 /// What each link answers to a preflight.
 const ALLOWED: &[u8] = b"HTTP/1.1 200 OK\r\nAccess-Control-Allow-Origin: *\r\n\

@@ -13,10 +13,13 @@
 //     a word of `access.rt` of `rows_fetches`, a tab and texts: such a server by itself, and documents that ask it.
 //
 // Before them it plays documents on threads, over links that wait for each other: by the top call, as `gates.rt` of
-// `rows_runs` says, and by `play_all` itself, as `seats.rt` of `rows_fetches` does.
+// `rows_runs` says, and by `play_all` itself, as `seats.rt` of `rows_fetches` does. And it
+// plays the same documents one after another, without threads.
 #![tactic(auto)]
 
-use rows_fetches::{kind_of, play_access, play_group, play_on_seats, play_request};
+use rows_fetches::{
+    kind_of, play_access, play_group, play_on_seats, play_request, play_two_in_turn,
+};
 use rows_runs::{play_gates, play_net, play_row, play_server};
 use rows_shell::{Failed, Shown, is_title, print_text};
 use std::io;
@@ -120,17 +123,19 @@ fn play_line<'a, R: Threads + Wait + Sync + Print + AllocGlobal>(
     print_played(rt, played, shown)
 }
 
-// Plays the documents on threads, by both calls.
+// Plays the documents on threads, by both calls, and then one after another.
 fn play_all<R: Threads + Wait + Sync + AllocGlobal>(
     rt: &R,
     shown: &mut Shown,
 ) -> Result<(), Failed> {
     play_gates(rt, shown)?;
     shown.add(b"\n");
-    play_on_seats(rt, shown)
+    play_on_seats(rt, shown)?;
+    shown.add(b"\n");
+    play_two_in_turn(rt.alloc(), shown)
 }
 
-// Plays the documents on threads.
+// Plays the documents by each of these calls.
 fn play_threads<R: Threads + Wait + Sync + Print + AllocGlobal>(rt: &R) -> Result<(), Failed> {
     let mut shown = Shown::new(rt.alloc());
     let played = play_all(rt, &mut shown);

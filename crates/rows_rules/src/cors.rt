@@ -12,9 +12,9 @@ use policy_checks::{corp_blocks, serialized_origin};
 use policy_preflight::{Checked, preflight_of, verdict};
 use rows_shell::{Failed, Held, Row, Shown, list_of, texts_between};
 use std::alloc::Global;
+use value_bytes::BytesList;
 use value_origins::tuple_origin;
 use value_requests::{Hop, NetError, Request};
-use value_text::BytesList;
 
 // Whether the row's headers keep an answer from a request.
 pub(crate) fn blocked(

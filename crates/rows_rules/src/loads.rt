@@ -12,11 +12,11 @@ use rows_shell::{
     Failed, Held, Row, Shown, client_at, destination_named, named, policy_named, value_of,
 };
 use std::alloc::Global;
+use value_bytes::Bytes;
 use value_origins::same_origin;
 use value_requests::{
     Client, CrossOrigin, Destination, LoadInit, Referrer, Request, Tainting, TypeFault,
 };
-use value_text::Bytes;
 
 /// The states of the CORS settings attribute.
 const CROSS_ORIGINS: [(&[u8], CrossOrigin); 3] = [

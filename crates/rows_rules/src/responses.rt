@@ -9,9 +9,9 @@ ghost use Rattle.value_requests.specs.Requests.{IsRequest};
 use policy_filter::{filtered, hide};
 use rows_shell::{Failed, Held, Row, Shown, list_of, number};
 use std::alloc::Global;
+use value_bytes::Bytes;
 use value_headers::PackedHeaders;
 use value_requests::{Head, Hop, Request, Response};
-use value_text::Bytes;
 
 // The head whose status is the text at an index, and whose headers the texts after it make.
 pub(crate) fn head_of(alloc: Global, row: &Row, index: usize) -> Result<Head, Failed> {

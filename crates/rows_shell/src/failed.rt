@@ -1,7 +1,7 @@
 // Why a program of worked cases stops.
 use std::alloc::{AllocError, AllocFailed};
 use std::io;
-use value_text::OutOfMemory;
+use value_bytes::OutOfMemory;
 
 /// A row is badly written, memory was refused, or a stream failed.
 #[derive(Clone, Copy, Debug)]

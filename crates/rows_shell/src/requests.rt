@@ -25,13 +25,14 @@ use crate::urls::{origin_written, url_written};
 use crate::words::{destination_named, named, policy_named, value_of, values_of};
 use std::alloc::Global;
 use url::Url;
+use value_bytes::Bytes;
 use value_headers::HeaderList;
 use value_origins::{Origin, is_http_url};
 use value_requests::{
     Credentials, Destination, MOST_REDIRECTS, Mode, RedirectMode, Referrer, ReferrerPolicy,
     Request, Tainting, Urls,
 };
-use value_text::{Bytes, after_byte, before_byte, is_token, parse_digits};
+use value_text::{after_byte, before_byte, is_token, parse_digits};
 
 /// The modes.
 const MODES: [(&[u8], Mode); 4] = [

@@ -2,7 +2,8 @@
 use crate::failed::Failed;
 use crate::shown::Shown;
 use std::alloc::Global;
-use value_text::{Bytes, BytesList, after_byte, before_byte, parse_digits, parts_between};
+use value_bytes::{Bytes, BytesList};
+use value_text::{after_byte, before_byte, parse_digits, parts_between};
 
 /// The texts of a row, without their escapes.
 #[derive(Drop)]

@@ -1,8 +1,8 @@
 // Answers as they are printed.
 use crate::failed::Failed;
 use std::alloc::Global;
+use value_bytes::{Bytes, BytesList};
 use value_headers::{HeaderList, PackedHeaders};
-use value_text::{Bytes, BytesList};
 
 /// A text that an answer is written into. Where it is refused memory, or is told of a failure, it has failed from then
 /// on: so what writes into it need not look after each piece.

@@ -2,8 +2,9 @@
 use crate::failed::Failed;
 use crate::row::texts_between;
 use std::alloc::Global;
+use value_bytes::{Bytes, BytesList};
 use value_requests::{Destination, ReferrerPolicy};
-use value_text::{Bytes, BytesList, after_byte, before_byte};
+use value_text::{after_byte, before_byte};
 
 /// The destinations by their names. `Fetch` has two: `fetch` and the empty name.
 const DESTINATIONS: [(&[u8], Destination); 9] = [

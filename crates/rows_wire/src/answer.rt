@@ -3,7 +3,8 @@ use crate::cut::{Cut, LARGE, SINGLE, places};
 use crate::reading::{Part, Reading};
 use rows_shell::{Failed, Shown, number, unescaped};
 use std::alloc::Global;
-use value_text::{Bytes, after_byte, before_byte};
+use value_bytes::Bytes;
+use value_text::{after_byte, before_byte};
 
 // What the heads of an answer come to: the final head and how many bytes there are up to its end, or why
 // there is none.

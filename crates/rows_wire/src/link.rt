@@ -5,7 +5,8 @@ use link_routes::{Links, MemoryLinks, Routes};
 use link_traits::{Link, MemoryLink, Target};
 use rows_shell::{Failed, Held, Row, Shown, named, number, texts_between};
 use std::alloc::Global;
-use value_text::{Bytes, BytesList, after_byte, before_byte};
+use value_bytes::{Bytes, BytesList};
+use value_text::{after_byte, before_byte};
 
 /// How many bytes a receive asks for at most.
 const BUFFER: usize = 16;

@@ -2,9 +2,10 @@
 use link_http1::write_request;
 use rows_shell::{Failed, Shown, texts_between};
 use std::alloc::Global;
+use value_bytes::Bytes;
 use value_headers::PackedHeaders;
 use value_requests::Hop;
-use value_text::{Bytes, after_byte, before_byte};
+use value_text::{after_byte, before_byte};
 
 // The headers of a text: each its name, a colon, a space and its value, with `|` between.
 fn headers_in(alloc: Global, text: &[u8]) -> Result<PackedHeaders, Failed> {

@@ -1,9 +1,9 @@
 // The commands of a script, with the scripts and conditions inside them.
 use std::alloc::Global;
 use std::marker::Model;
+use value_bytes::{Bytes, OutOfMemory};
 use value_places::Boxed;
 use value_requests::{Init, LoadInit};
-use value_text::{Bytes, OutOfMemory};
 
 /// A condition on the last result of a script.
 #[derive(Drop)]

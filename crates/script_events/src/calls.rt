@@ -9,7 +9,7 @@ use crate::receiver::Receiver;
 use book_calls::{Op, Reply};
 use book_hosts::Sts;
 use book_preflights::{Lesson, Names, Question};
-use value_text::Bytes;
+use value_bytes::Bytes;
 
 // What an operation replied.
 fn reply_text(reply: Reply) -> &'static [u8]

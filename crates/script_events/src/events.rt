@@ -3,9 +3,9 @@ ghost use Rattle.std.specs.Prelude.{◌↔◌, IsTrue};
 ghost use Rattle.script_events.specs.Endings as spec;
 
 use book_calls::{Op, Reply};
+use value_bytes::{Bytes, Items};
 use value_places::{Boxed, Shared};
 use value_requests::{Destination, Hop, NetError, Outcome, TypeFault, Violation};
-use value_text::{Bytes, Items};
 
 /// One thing that a document's run shows.
 #[derive(Drop)]

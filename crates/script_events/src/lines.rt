@@ -11,11 +11,11 @@ use crate::calls::tell_call;
 use crate::events::Event;
 use crate::receiver::Receiver;
 use book_calls::{Op, Reply};
+use value_bytes::Bytes;
 use value_headers::PackedHeaders;
 use value_requests::{
     BodyEnd, Destination, Hop, NetError, Outcome, Response, TypeFault, Violation,
 };
-use value_text::Bytes;
 
 // Tells a line that ends with a number.
 fn tell_number_line<R: Receiver>(

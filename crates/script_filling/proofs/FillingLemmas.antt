@@ -8,7 +8,8 @@ use Rattle.std.specs.Prelude.{◌==◌, ◌&&◌, ◌||◌, ◌⊎◌, not, nat_
 use Rattle.std.specs.List.{flat_map}
 use Rattle.value_requests.specs.declared.client.Client.{Client}
 use Rattle.value_requests.specs.declared.fault.TypeFault.{TypeFault}
-use Rattle.value_requests.specs.declared.fault.TypeFault.TheVariants.{UrlCredentials, BadMethod, ForbiddenMethod, BodyWithGet}
+use Rattle.value_requests.specs.declared.fault.TypeFault.TheVariants.{UrlCredentials, BadMethod, ForbiddenMethod}
+use Rattle.value_requests.specs.declared.fault.TypeFault.TheVariants.{BodyWithGet}
 use Rattle.value_requests.specs.declared.fault.TypeFault.TheVariants.{NoCorsMethod, BadHeader, NavigateMode, TooLong}
 use Rattle.value_requests.specs.declared.init.Init.{Init}
 use Rattle.value_requests.specs.declared.init.LoadInit.{LoadInit}
@@ -23,7 +24,8 @@ use Rattle.fetch_requests.specs.Making.{fault_or, faults, first_fault, is_long_b
 use Rattle.fetch_requests.specs.Loading.{load_for, new_load}
 use Rattle.std.specs.Bool.{then_some}
 use Rattle.value_requests.specs.Urls.{unless_long, url_against}
-use Rattle.fetch_requests.specs.Making.{first_bad, given_size, is_navigate, is_no_cors, is_too_long, pair_size, url_given}
+use Rattle.fetch_requests.specs.Making.{first_bad, given_size, is_navigate, is_no_cors, is_too_long, pair_size}
+use Rattle.fetch_requests.specs.Making.{url_given}
 use Rattle.script_commands.specs.Pieces.{pieces_behind}
 use Rattle.script_commands.specs.Templates.{filled, opens, pieces, placed}
 use Rattle.value_text.specs.Pieces.{with_front}

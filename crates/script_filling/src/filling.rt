@@ -11,8 +11,9 @@ use crate::results::add_value;
 use script_commands::next_piece;
 use script_events::Event;
 use std::alloc::Global;
+use value_bytes::{Bytes, OutOfMemory};
 use value_requests::{Init, LoadInit, Pair, Pairs};
-use value_text::{Bytes, OutOfMemory, after_byte, before_byte, is_value, trim_http};
+use value_text::{after_byte, before_byte, is_value, trim_http};
 
 /// How many bytes of a body are handed on at most: one more than a request's body may have.
 const MOST_BODY: usize = 65_537;
@@ -154,8 +155,8 @@ fn filled_body(
 /// that is longer than 16,384 bytes, which no request has, the first 16,384 are handed on, and behind them a
 /// letter, or NUL where the value has a byte that no header value has: so it is refused for what the whole
 /// one would be. Its rest is looked at as it comes, and not kept. A body that gets longer than 65,536 bytes,
-/// which no request has either, stops growing there, and its first 65,537 are handed on. So it is with a URL of more than
-/// 786,432 bytes, which is none.
+/// which no request has either, stops growing there, and its first 65,537 are handed on. So it is with a URL of more
+/// than 786,432 bytes, which is none.
 pub fn filled_init(alloc: Global, last: Option<&Event>, init: &Init) -> Result<Init, OutOfMemory>
     ensures { IfOk result
         (λ filled. filled ≡ short.with_all_cuts (spec.filled_init (lent_result last.entry) init.now)) }
@@ -175,8 +176,8 @@ pub fn filled_init(alloc: Global, last: Option<&Event>, init: &Init) -> Result<I
     })
 }
 
-/// What a script asks of a load, with the parts of the last result in the place of the placeholders in its URL, of which
-/// no more is handed on than of a fetch's.
+/// What a script asks of a load, with the parts of the last result in the place of the placeholders in its URL, of
+/// which no more is handed on than of a fetch's.
 pub fn filled_load(
     alloc: Global,
     last: Option<&Event>,

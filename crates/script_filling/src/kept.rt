@@ -4,7 +4,7 @@ ghost use Rattle.value_text.specs.Trims.{http_whitespace, trimmed_end, trimmed_s
 ghost use Rattle.script_filling.specs.Private.Squeezes as short;
 
 use std::alloc::Global;
-use value_text::OutOfMemory;
+use value_bytes::OutOfMemory;
 
 /// How many bytes of a header value are handed on at most, but for its mark: as many as the headers of a request may
 /// have together.

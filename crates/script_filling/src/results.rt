@@ -7,8 +7,8 @@ ghost use Rattle.value_text.specs.Mime.{is_text};
 use script_commands::Test;
 use script_events::Event;
 use std::alloc::Global;
+use value_bytes::OutOfMemory;
 use value_requests::{BodyEnd, Outcome, Response, is_ok_status};
-use value_text::OutOfMemory;
 
 /// Whether an event says what a fetch or a load came to: a response, a load that succeeded, a network
 /// error, or that there was no request. It takes no memory.

@@ -11,7 +11,8 @@ use Rattle.url.proofs.OnLiterals.{url_on_literals}
 use Rattle.url.specs.Parts.{Parts}
 use Rattle.value_requests.specs.Urls.{url_of_text}
 use Rattle.script_commands.specs.Valid.{IsValidInit, IsValidScript}
-use Rattle.script_reading.specs.Generated.{api_server, put_request, put_script, address_text, address, generated_document}
+use Rattle.script_reading.specs.Generated.{api_server, put_request, put_script, address_text, address}
+use Rattle.script_reading.specs.Generated.{generated_document}
 use Rattle.script_reading.specs.Generated.{preflight_rule, other_rule, generated}
 use Rattle.script_scenarios.specs.declared.document.Document.{Document}
 use Rattle.script_scenarios.specs.Urls.{is_document_url}

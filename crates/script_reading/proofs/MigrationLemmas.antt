@@ -19,7 +19,8 @@ use Rattle.script_reading.specs.declared.place.Place.{Place}
 use Rattle.script_reading.specs.Formats.{format_numbered, whole_number, format_of, later_keys, root_keys, body_limit_of}
 use Rattle.script_reading.specs.Formats.{most_documents, document_keys, top_of}
 use Rattle.script_reading.specs.Migration.{migrated, IsMigratedAlike}
-use Rattle.script_reading.specs.Scenarios.{host_of, cookie_of, route_of, server_of, document_of, scenario_as, scenario_in}
+use Rattle.script_reading.specs.Scenarios.{host_of, cookie_of, route_of, server_of, document_of, scenario_as}
+use Rattle.script_reading.specs.Scenarios.{scenario_in}
 use Rattle.script_reading.specs.Scenarios.{told}
 use Rattle.script_reading.specs.Urls.{document_url_of}
 

@@ -38,7 +38,8 @@ use Rattle.value_requests.specs.OriginTexts.{is_origin_text}
 use Rattle.script_scenarios.specs.Urls.{is_document_url}
 use Rattle.script_reading.specs.Urls.{document_url_of}
 use Rattle.script_reading.specs.Headers.{listed, policies_of_headers, policy_or_default}
-use Rattle.script_reading.specs.Scenarios.{host_keys, host_of, cookie_of, route_of, plain_header_of, answer_of, rule_keys}
+use Rattle.script_reading.specs.Scenarios.{host_keys, host_of, cookie_of, route_of, plain_header_of, answer_of}
+use Rattle.script_reading.specs.Scenarios.{rule_keys}
 use Rattle.script_reading.specs.Scenarios.{rule_of, server_keys, server_of, said_of, document_of, scenario_as}
 use Rattle.script_scenarios.specs.Valid.{IsValidHost, IsValidCookie, IsValidRoute, IsValidRule, IsValidServer}
 use Rattle.script_scenarios.specs.Valid.{IsValidDocument}

@@ -4,8 +4,8 @@ ghost use Rattle.std.specs.List.{flat_map};
 ghost use Rattle.script_reading.specs.Answers as spec;
 
 use std::alloc::Global;
+use value_bytes::{Bytes, OutOfMemory};
 use value_requests::Pair;
-use value_text::{Bytes, OutOfMemory};
 
 // How many bytes the headers on their lines have, or the greatest number where that is less.
 fn lines_len(headers: &[Pair]) -> usize

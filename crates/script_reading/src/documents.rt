@@ -7,9 +7,9 @@ use crate::urls::DocumentUrl;
 use script_scenarios::Document;
 use script_steps::DocumentScript;
 use std::alloc::Global;
+use value_bytes::Items;
 use value_json::{Form, Refused, Tree, only_keys, optional, required};
 use value_requests::ReferrerPolicy;
-use value_text::Items;
 
 /// A document: its URL and that of the page at the top, what its headers say, and its script.
 #[derive(Drop)]

@@ -11,11 +11,11 @@ use script_commands::{Command, Script};
 use script_scenarios::{Document, Documents, Hosts, Rule, Rules, Scenario, Server, Servers};
 use std::alloc::Global;
 use url::Url;
+use value_bytes::{Bytes, OutOfMemory};
 use value_places::Boxed;
 use value_requests::{
     Cookies, Credentials, Init, Mode, Pair, Pairs, RedirectMode, ReferrerPolicy, url_alone,
 };
-use value_text::{Bytes, OutOfMemory};
 
 // The header that allows every origin to read a response.
 fn any_origin(alloc: Global) -> Result<Pair, OutOfMemory>

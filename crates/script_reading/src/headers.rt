@@ -6,12 +6,13 @@ ghost use Rattle.script_reading.specs.Scenarios as table;
 
 use policy_csp_text::{Policies, count_policies, parse_policies};
 use std::alloc::Global;
+use value_bytes::OutOfMemory;
 use value_headers::HeaderList;
 use value_json::{
     Form, HeaderValue, ItemsOf, PairOf, Refused, TextThat, Token, Tree, refused_here,
 };
 use value_requests::{Pair, ReferrerPolicy, policy_of_header};
-use value_text::{OutOfMemory, eq_fold};
+use value_text::eq_fold;
 
 /// How many policies a document has at most.
 const MOST_POLICIES: usize = 16;

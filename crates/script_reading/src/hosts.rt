@@ -4,9 +4,9 @@ ghost use Rattle.value_requests.specs.HostNames as hosts;
 
 use script_scenarios::KnownHost;
 use std::alloc::Global;
+use value_bytes::OutOfMemory;
 use value_json::{Form, Number, Refused, TextTest, TextThat, Tree, Truth, only_keys, required};
 use value_requests::is_host_name;
-use value_text::OutOfMemory;
 
 const KEYS: &[&str] = &["host", "subdomains", "until"];
 

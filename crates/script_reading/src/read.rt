@@ -14,11 +14,11 @@ use crate::routes::RoutePair;
 use crate::servers::ServerTable;
 use script_scenarios::{Scenario, Servers};
 use std::alloc::Global;
+use value_bytes::{Bytes, Items, OutOfMemory};
 use value_json::{
     Form, ItemsOf, JsonText, ListOf, Number, Refused, Scratch, Tree, only_keys, optional, required,
 };
 use value_requests::utf8_text;
-use value_text::{Bytes, Items, OutOfMemory};
 
 const NOW: Number = Number {
     least: 0,

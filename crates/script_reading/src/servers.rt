@@ -9,11 +9,11 @@ use crate::headers::PlainHeader;
 use crate::texts::OriginText;
 use script_scenarios::{Rule, Server};
 use std::alloc::Global;
+use value_bytes::{Bytes, Items};
 use value_json::{
     AnyText, Form, Given, ItemsOf, Number, Refused, TextThat, Token, Tree, only_keys, optional,
     required,
 };
-use value_text::{Bytes, Items};
 
 // The keys of a rule whose answer is given by its bytes.
 const RAW_KEYS: &[&str] = &["method", "path", "raw"];

@@ -3,9 +3,10 @@ ghost use Rattle.script_scenarios.specs.Texts as spec;
 ghost use Rattle.value_requests.specs.OriginTexts.{is_origin_text};
 
 use std::alloc::Global;
+use value_bytes::OutOfMemory;
 use value_json::TextTest;
 use value_requests::read_origin;
-use value_text::{OutOfMemory, is_value};
+use value_text::is_value;
 
 /// The value of a Cookie header: a header value of 1 to 4,096 bytes.
 #[derive(Drop)]

@@ -14,9 +14,9 @@ use script_commands::Command;
 use script_events::{Ending, Event, Events};
 use std::alloc::Global;
 use std::marker::Model;
+use value_bytes::OutOfMemory;
 use value_places::Boxed;
 use value_requests::{Destination, Outcome, TypeFault};
-use value_text::OutOfMemory;
 
 /// How many commands of a document start at most.
 const MOST_COMMANDS: u32 = 16_384;

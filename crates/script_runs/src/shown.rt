@@ -12,7 +12,7 @@ use script_events::{Event, Events, event_len};
 use script_filling::is_result;
 use std::alloc::Global;
 use std::marker::Model;
-use value_text::OutOfMemory;
+use value_bytes::OutOfMemory;
 
 // How many bytes the lines of a document have at most before a fetch.
 const MOST_PRINTED: u64 = 8_388_608;

@@ -2,8 +2,8 @@
 use policy_csp_text::Policies;
 use script_commands::Script;
 use url::Url;
+use value_bytes::Items;
 use value_requests::ReferrerPolicy;
-use value_text::Items;
 
 /// A document: its URL, the URL of the page at the top, which is its own where it is not embedded, its
 /// referrer policy, its content security policies, and its script.

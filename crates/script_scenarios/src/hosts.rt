@@ -1,5 +1,5 @@
 // The hosts that are known when a scenario begins.
-use value_text::{Bytes, Items};
+use value_bytes::{Bytes, Items};
 
 /// A known HSTS host (RFC 6797, section 8.1.1): its domain as a URL has it, whether the names under it
 /// are known too, and the first second in which it is not known any more.

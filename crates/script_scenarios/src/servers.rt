@@ -4,7 +4,7 @@ ghost use Rattle.script_scenarios.specs.Servers as spec;
 
 use std::alloc::Global;
 use std::marker::Model;
-use value_text::{Bytes, Items, OutOfMemory};
+use value_bytes::{Bytes, Items, OutOfMemory};
 
 /// What is answered where no rule fits.
 const NOT_FOUND: &[u8] = b"HTTP/1.1 404 Scripted\r\n\r\n";

@@ -10,9 +10,9 @@ use crate::fetches::FetchTable;
 use crate::loads::LoadTable;
 use script_commands::Command;
 use std::alloc::Global;
+use value_bytes::Bytes;
 use value_json::{Number, Refused, Tree, only_keys, refused_under, required};
 use value_places::Boxed;
-use value_text::Bytes;
 
 const SECONDS: Number = Number {
     least: 0,

@@ -5,12 +5,12 @@ ghost use Rattle.script_steps.specs.Fetches as spec;
 
 use crate::texts::{TEMPLATE, TEXT, Template, policy};
 use std::alloc::Global;
+use value_bytes::{Bytes, Items};
 use value_json::{
     AnyText, Form, Given, ListOf, PairOf, Refused, TextThat, Tree, Truth, Word, only_keys,
     optional, required,
 };
 use value_requests::{Credentials, Init, Mode, Pair, Pairs, RedirectMode, ReferrerPolicy};
-use value_text::{Bytes, Items};
 
 const KEYS: &[&str] = &[
     "url",

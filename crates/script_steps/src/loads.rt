@@ -3,9 +3,9 @@ ghost use Rattle.script_steps.specs.Loads as spec;
 
 use crate::texts::{TEMPLATE, TEXT, policy};
 use std::alloc::Global;
+use value_bytes::Bytes;
 use value_json::{Form, Refused, Tree, Truth, Word, only_keys, optional, required};
 use value_requests::{CrossOrigin, Destination, LoadInit};
-use value_text::Bytes;
 
 const KEYS: &[&str] = &[
     "kind",

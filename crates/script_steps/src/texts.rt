@@ -6,9 +6,9 @@ ghost use Rattle.script_steps.specs.Referring as spec;
 
 use script_commands::is_template;
 use std::alloc::Global;
+use value_bytes::OutOfMemory;
 use value_json::{AnyText, Refused, TextTest, TextThat, Tree, Word, optional};
 use value_requests::ReferrerPolicy;
-use value_text::OutOfMemory;
 
 /// A template.
 #[derive(Drop)]

@@ -27,7 +27,8 @@ use Rattle.script_events.specs.declared.events.Event.TheVariants as event
 use Rattle.play_definitions.specs.Worlds.{World}
 use Rattle.server_tables.specs.declared.table.Row.{Row}
 use Rattle.server_tables.specs.Tables.{lists, row_of}
-use Rattle.server_tables.specs.Served.{IsServed, Reply, allowed, by_origin, by_found, is_preflight, refused, reply_bytes}
+use Rattle.server_tables.specs.Served.{IsServed, Reply, allowed, by_origin, by_found, is_preflight, refused}
+use Rattle.server_tables.specs.Served.{reply_bytes}
 use Rattle.server_tables.specs.Served.{reply_to, served}
 use Rattle.server_heard.specs.Heard.{IsLine, IsPlainReply, IsWritten, RepliesAreHeard, RepliesHaveHeads}
 use Rattle.server_heard.specs.Heard.{RequestsAreHeard, as_read}

@@ -25,7 +25,8 @@ use Rattle.value_requests.specs.Methods.{is_safelisted_method}
 use Rattle.value_requests.specs.Statuses.{is_ok_status}
 use Rattle.policy_preflight.specs.declared.answer.Checked.{Checked}
 use Rattle.policy_preflight.specs.declared.answer.Checked.TheVariants.{Pass, Refused}
-use Rattle.policy_preflight.specs.Verdict.{age_of, allows_authorization, allows_method, allows_name, covers_all, first_refused}
+use Rattle.policy_preflight.specs.Verdict.{age_of, allows_authorization, allows_method, allows_name, covers_all}
+use Rattle.policy_preflight.specs.Verdict.{first_refused}
 use Rattle.policy_preflight.specs.Verdict.{has_name, methods_of, names_of, unless_refused, verdict}
 use Rattle.policy_preflight.specs.Verdict.{verdict_of, verdict_where}
 use Rattle.server_access.proofs.ListLemmas.{find-alike}

@@ -26,7 +26,8 @@ use Rattle.policy_safelist.specs.Forbidden.{forbidden_names, has_forbidden_prefi
 use Rattle.policy_safelist.specs.Forbidden.{overrides_with_forbidden_method}
 use Rattle.policy_safelist.specs.Guards.{allows, list_after, outcome}
 use Rattle.policy_safelist.specs.Names.{is_among}
-use Rattle.fetch_requests.specs.Making.{accept_value, fault_or, faults, filled, first_fault, guard_of, header_list, made}
+use Rattle.fetch_requests.specs.Making.{accept_value, fault_or, faults, filled, first_fault, guard_of, header_list}
+use Rattle.fetch_requests.specs.Making.{made}
 use Rattle.fetch_requests.specs.Making.{new_request, request_for, unless_there, url_given, with_body_type}
 use Rattle.fetch_requests.proofs.RequestLemmas.{made-valid}
 use Rattle.server_access.proofs.ValueLemmas.{AreLines, IsLineText, lines-appended, value_if, values-appended}

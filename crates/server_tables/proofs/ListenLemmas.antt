@@ -196,6 +196,7 @@ heard-now a b bytes found (Some asked) came read some = record {
     few = came.few;
     suffice = inl (asked, read);
     asked_on = came.asked_on;
+    quiet = came.quiet;
   };
   read = read;
   sink = came.gives.sink;
@@ -208,6 +209,7 @@ heard-now a b bytes false None came read some = record {
     few = came.few;
     suffice = inr (came.over refl);
     asked_on = came.asked_on;
+    quiet = came.quiet;
   };
   read = read;
   sink = came.gives.sink;
@@ -227,6 +229,7 @@ heard-later a b c bytes found n came is none same ended =
         few = omega (arith, all, ended.few);
         suffice = inr (subst (IsOver c) all ended.over);
         asked_on = asked-all (bytes ++ ended.rest) (never-comes bytes ended.rest (came.block is) none);
+        quiet = ended.quiet ∙ came.quiet;
       };
       read = never-comes bytes ended.rest (came.block is) none;
       sink = gives.sink;

@@ -9,7 +9,8 @@ use Rattle.value_lemmas.proofs.Lists.{append-three}
 use Rattle.value_headers.specs.declared.headers.Header.{Header}
 use Rattle.link_http1.specs.Requests.{header_line}
 use Rattle.link_http1.specs.declared.request_head.Asked.{Asked}
-use Rattle.server_tables.specs.Served.{allowed, bad, body_for, by_row, content_length, granted, is_preflight, list_header}
+use Rattle.server_tables.specs.Served.{allowed, bad, body_for, by_row, content_length, granted, is_preflight}
+use Rattle.server_tables.specs.Served.{list_header}
 use Rattle.server_tables.specs.Served.{refused, reply_bytes, served}
 use Rattle.server_tables.specs.Tables.{lists}
 use Rattle.server_tables.specs.declared.table.Row.{Row}

@@ -41,12 +41,13 @@ pub record AskedOn (bytes : Text) : Type 0 where
   pub few : length bytes ≤ earlier + most_at_once
   pub none : IsRead (take earlier bytes) None
 
--- these bytes were read, they suffice, and no more was asked for than had to be
+-- these bytes were read, they suffice, no more was asked for than had to be, and no read failed
 pub record Heard (old new : SourceTold) (bytes : Text) : Type 0 where
   pub gave : Gave old.left new.left bytes
   pub few : length bytes ≤ most_read
   pub suffice : Suffice new.left bytes
   pub asked_on : AskedOn bytes
+  pub quiet : new.faults ≡ old.faults
 
 -- the reply to the bytes read was written whole
 pub record Answered (table : List Row) (old new : PeerTold) (status : ℕ) : Type 0 where

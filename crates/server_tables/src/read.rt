@@ -6,10 +6,9 @@ ghost use Rattle.server_tables.specs.Reading as spec;
 
 use crate::table::{AllowTable, Row};
 use std::alloc::Global;
+use value_bytes::{Bytes, BytesList, OutOfMemory, in_lower_case};
 use value_requests::read_origin;
-use value_text::{
-    Bytes, BytesList, OutOfMemory, in_lower_case, is_token, is_wildcard, parts_between, position_of,
-};
+use value_text::{is_token, is_wildcard, parts_between, position_of};
 
 // How many rows a table has at most.
 const MOST_ROWS: u32 = 256;

@@ -10,7 +10,7 @@ ghost use Rattle.server_tables.specs.Served.{IsServed};
 use crate::table::{AllowTable, Row};
 use link_http1::{Asked, read_request};
 use std::alloc::Global;
-use value_text::{Bytes, OutOfMemory, has_text};
+use value_bytes::{Bytes, OutOfMemory, has_text};
 
 // How many bytes most answers have at most, for which room is made first.
 const FEW_BYTES: usize = 512;

@@ -5,7 +5,7 @@ ghost use Rattle.server_tables.specs.Tables.{row_of};
 use std::alloc::Global;
 use std::collections::BTreeMap;
 use std::marker::Model;
-use value_text::{Bytes, BytesList, OutOfMemory};
+use value_bytes::{Bytes, BytesList, OutOfMemory};
 
 /// A row of an allow table: requests from this origin may have these methods and these header names, and
 /// credentials where it says so.

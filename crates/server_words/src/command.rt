@@ -7,7 +7,7 @@ ghost use Rattle.server_words.specs.Words.{are_texts, texts};
 use clap::error::ErrorKind;
 use clap::{Arg, ArgAction, Command};
 use std::alloc::{AllocError, Global};
-use value_text::OutOfMemory;
+use value_bytes::OutOfMemory;
 
 // A command of two texts that have to be there, without flags, subcommands and a program's name.
 fn two_texts<'a>(alloc: Global) -> Result<Command<'a>, AllocError>

@@ -5,7 +5,8 @@ ghost use Rattle.server_words.specs.Words.{texts};
 
 use crate::command::two_words;
 use std::alloc::Global;
-use value_text::{Bytes, OutOfMemory, parse_digits};
+use value_bytes::{Bytes, OutOfMemory};
+use value_text::parse_digits;
 
 /// What the words ask for.
 #[derive(Drop)]

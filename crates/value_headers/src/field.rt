@@ -4,7 +4,7 @@ ghost use Rattle.value_headers.specs.declared.headers.Header.{Header};
 
 use std::alloc::Global;
 use std::marker::Model;
-use value_text::{Bytes, OutOfMemory};
+use value_bytes::{Bytes, OutOfMemory};
 
 /// A header as a list keeps it, seen as the header: its name and its value are one text, so that both of a short one
 /// are in the field itself.

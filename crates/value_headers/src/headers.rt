@@ -13,7 +13,8 @@ ghost use Rattle.value_headers.specs.declared.headers.Header.{Header};
 use crate::field::Field;
 use std::alloc::Global;
 use std::marker::Model;
-use value_text::{Bytes, OutOfMemory, eq_fold};
+use value_bytes::{Bytes, OutOfMemory};
+use value_text::eq_fold;
 
 /// A header: a name and a value. Contracts speak of it, and see each `Field` as one.
 #[derive(Drop)]

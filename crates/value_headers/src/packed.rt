@@ -11,7 +11,8 @@ use crate::field::Field;
 use crate::headers::{HeaderList, add_value};
 use std::alloc::Global;
 use std::marker::Model;
-use value_text::{Bytes, OutOfMemory, eq_fold};
+use value_bytes::{Bytes, OutOfMemory};
+use value_text::eq_fold;
 
 // Whether two names are equal. It stands apart, so that a walk over places stays small: most are told by their length.
 #[inline(never)]

@@ -8,7 +8,7 @@ ghost use Rattle.value_json.specs.Reading.{Read, under, below};
 use crate::refused::Refused;
 use crate::tree::Tree;
 use std::alloc::Global;
-use value_text::{Bytes, OutOfMemory};
+use value_bytes::{Bytes, OutOfMemory};
 
 /// What a value of a JSON tree (RFC 8259) has to be, and what it is read as.
 pub trait Form {

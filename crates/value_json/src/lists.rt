@@ -11,7 +11,7 @@ use crate::items::Trees;
 use crate::refused::Refused;
 use crate::tree::Tree;
 use std::alloc::Global;
-use value_text::Items;
+use value_bytes::Items;
 
 /// A list of any number of items of one form. A value that is no list is refused at its own place,
 /// and the first item that is not of the form under its number, counted from 0.

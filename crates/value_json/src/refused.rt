@@ -1,6 +1,6 @@
 // Why a value was not read: want of memory, or the first refused place.
 use std::alloc::{AllocError, AllocFailed};
-use value_text::{Bytes, OutOfMemory};
+use value_bytes::{Bytes, OutOfMemory};
 
 /// Why a value was not read: want of memory, or the first refused place, from the value that was
 /// read. A place is empty for the value itself, and has each segment on the way down, a key or a

@@ -10,7 +10,7 @@ use crate::tree::Tree;
 use json::{Error, Node, Scratch, Tape};
 use std::alloc::Global;
 use std::marker::Model;
-use value_text::OutOfMemory;
+use value_bytes::OutOfMemory;
 
 // How deep arrays and objects may nest, which is what `serde_json` takes.
 const DEEPEST: usize = 127;

@@ -9,7 +9,8 @@ use crate::form::{Form, refused_here};
 use crate::refused::Refused;
 use crate::tree::Tree;
 use std::alloc::Global;
-use value_text::{Bytes, OutOfMemory, is_token, is_value};
+use value_bytes::{Bytes, OutOfMemory};
+use value_text::{is_token, is_value};
 
 /// A test that a text has to pass.
 pub trait TextTest {

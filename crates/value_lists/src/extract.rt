@@ -10,10 +10,9 @@ ghost use Rattle.value_lists.specs.Private.Finding.{WasFound};
 ghost use Rattle.value_lists.specs.declared.extract.Rule.TheVariants.{Tokens, Digits, Single};
 
 use std::alloc::Global;
+use value_bytes::{Bytes, BytesList, OutOfMemory};
 use value_headers::{Field, HeaderList};
-use value_text::{
-    Bytes, BytesList, OutOfMemory, eq_fold, is_digits, is_token, position_of, trim_tab_or_space,
-};
+use value_text::{eq_fold, is_digits, is_token, position_of, trim_tab_or_space};
 
 /// How the values of a header are extracted.
 #[derive(Clone, Copy)]
@@ -132,8 +131,8 @@ fn one(alloc: Global, value: &[u8]) -> Result<Extracted, OutOfMemory>
 ///
 /// `Absent` exactly where the list does not contain the name. By `Tokens` the items are what is between the commas of
 /// each value, trimmed, the empty ones skipped, and it is a failure where one is no token. By `Digits` and `Single` the
-/// item is the value, and it is a failure where the name is there twice, and by `Digits` where the value is not one digit
-/// or more.
+/// item is the value, and it is a failure where the name is there twice, and by `Digits` where the value is not one
+/// digit or more.
 pub fn extract_values(
     alloc: Global,
     headers: &HeaderList,

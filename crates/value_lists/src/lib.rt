@@ -3,6 +3,8 @@
 
 mod extract;
 mod split;
+mod wildcard;
 
 pub use extract::{Extracted, Rule, extract_values};
 pub use split::{split_value, split_values};
+pub use wildcard::has_wildcard;

@@ -6,8 +6,9 @@ ghost use Rattle.value_lists.specs.Split.{split, split_values};
 ghost use Rattle.value_lists.specs.Private.Splitting.{pieces_at, pieces_behind, split_with};
 
 use std::alloc::Global;
+use value_bytes::{Bytes, BytesList, OutOfMemory};
 use value_headers::{Field, HeaderList};
-use value_text::{Bytes, BytesList, OutOfMemory, eq_fold, trim_tab_or_space};
+use value_text::{eq_fold, trim_tab_or_space};
 
 /// A place in a text that is split at its commas.
 #[derive(Clone, Copy)]
@@ -148,9 +149,9 @@ fn split_in(alloc: Global, headers: &[Field], name: &[u8]) -> Result<Option<Byte
     }
 }
 
-/// "get, decode, and split": the joined values of that name, cut at the commas outside quoted strings, each piece without
-/// tabs and spaces around it; nothing where the list does not contain the name. A quoted string that is not closed goes to
-/// the end, and a backslash in one takes the next byte with it (Fetch, section 2.2.2).
+/// "get, decode, and split": the joined values of that name, cut at the commas outside quoted strings, each piece
+/// without tabs and spaces around it; nothing where the list does not contain the name. A quoted string that is not
+/// closed goes to the end, and a backslash in one takes the next byte with it (Fetch, section 2.2.2).
 pub fn split_values(
     alloc: Global,
     headers: &HeaderList,

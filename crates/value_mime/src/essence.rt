@@ -4,9 +4,10 @@ ghost use Rattle.std.specs.Str.{str_to_ascii_lowercase};
 ghost use Rattle.value_mime.specs.Essence as spec;
 
 use std::alloc::Global;
+use value_bytes::{Bytes, BytesList, OutOfMemory, in_lower_case};
 use value_headers::HeaderList;
 use value_lists::split_values;
-use value_text::{Bytes, BytesList, OutOfMemory, essence_is, in_lower_case, written_essence};
+use value_text::{essence_is, written_essence};
 
 // The essence of a value, as it is written, where it is a MIME type other than `*/*`.
 fn specific_essence(value: &[u8]) -> Option<&[u8]>

@@ -6,7 +6,7 @@ ghost use Rattle.url.specs.Parts.{nonempty_host};
 use std::alloc::Global;
 use std::net::{Ipv4Addr, Ipv6Addr};
 use url::{Host, Url};
-use value_text::{Bytes, OutOfMemory};
+use value_bytes::{Bytes, OutOfMemory};
 
 /// The host of an origin: a domain, or an IP address as a number.
 #[derive(Drop)]

@@ -3,7 +3,7 @@ ghost use Rattle.std.specs.Prelude.{◌≡◌, IfOk};
 
 use std::alloc::Global;
 use std::marker::Model;
-use value_text::OutOfMemory;
+use value_bytes::OutOfMemory;
 
 /// A value in a place of its own. It is seen as the value.
 #[derive(Drop)]

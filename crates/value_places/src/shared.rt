@@ -4,7 +4,7 @@ ghost use Rattle.std.specs.Prelude.{◌≡◌, IfOk};
 use std::alloc::Global;
 use std::marker::Model;
 use std::sync::Arc;
-use value_text::OutOfMemory;
+use value_bytes::OutOfMemory;
 
 /// A value that several hold, also on several threads, and none of them changes. Each of them sees it as the
 /// value. It goes with the last of them.

@@ -5,8 +5,8 @@ ghost use Rattle.value_requests.specs.Clients as spec;
 use crate::mode::ReferrerPolicy;
 use std::alloc::Global;
 use url::Url;
+use value_bytes::{Bytes, Items, OutOfMemory};
 use value_origins::{Origin, serialize, tuple_origin};
-use value_text::{Bytes, Items, OutOfMemory};
 
 /// The environment settings of a document that fetches (HTML, section 8.1.3.2): its URL and the
 /// URL's origin, the origin of the page at the top, the key of its part of the preflight cache,

@@ -2,7 +2,7 @@
 ghost use Rattle.std.specs.Prelude.{◌≡◌};
 ghost use Rattle.value_requests.specs.Errors.{error_number, error_name};
 
-use value_text::Bytes;
+use value_bytes::Bytes;
 
 /// The network errors, by the rule that refuses. `PreflightHeader` names the header, in lower case.
 #[derive(Drop)]

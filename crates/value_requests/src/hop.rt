@@ -1,6 +1,6 @@
 // A request as it is sent, and the head of an answer.
+use value_bytes::Bytes;
 use value_headers::{HeaderList, PackedHeaders};
-use value_text::Bytes;
 
 /// One request as it is sent: to `origin`, the serialised origin of the target, its request line
 /// made of `method` and the request target `url`, then `headers`, the whole list from Host on, and

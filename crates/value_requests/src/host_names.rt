@@ -6,8 +6,8 @@ ghost use Rattle.value_text.specs.Mime.{is_text};
 use crate::urls::{url_alone, utf8_text};
 use std::alloc::Global;
 use url::Url;
+use value_bytes::OutOfMemory;
 use value_origins::is_local_name;
-use value_text::OutOfMemory;
 
 // The http URL of a host, where the text gives one.
 fn http_url_of(alloc: Global, host: &str) -> Result<Option<Url>, OutOfMemory>
@@ -27,8 +27,8 @@ fn has_domain(url: &Url, text: &str) -> bool
     }
 }
 
-/// Whether a text is a domain as a URL has it, and no localhost name: such a host may be known. An address, a port and a
-/// capital letter are no part of one.
+/// Whether a text is a domain as a URL has it, and no localhost name: such a host may be known. An address, a port and
+/// a capital letter are no part of one.
 pub fn is_host_name(alloc: Global, host: &str) -> Result<bool, OutOfMemory>
     ensures { IfOk result (λ is. is ≡ spec.is_host_name host.now) }
 {

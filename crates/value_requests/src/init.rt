@@ -1,7 +1,7 @@
 // What a script asks of `fetch`, and what an element asks for that loads a resource.
 use crate::mode::{Credentials, Mode, RedirectMode, ReferrerPolicy};
 use crate::policy::Destination;
-use value_text::{Bytes, Items};
+use value_bytes::{Bytes, Items};
 
 /// A name and a value that a script gives as a header; they need not be ones.
 #[derive(Drop)]

@@ -2,8 +2,8 @@
 ghost use Rattle.std.specs.Prelude.{◌≡◌, option_copied, OnOk, OnErr};
 ghost use Rattle.value_requests.specs.Lines.{appended_where};
 
+use value_bytes::{Bytes, OutOfMemory};
 use value_headers::PackedHeaders;
-use value_text::{Bytes, OutOfMemory};
 
 /// The user agent's name, as the value of User-Agent.
 pub const USER_AGENT: &[u8] = b"fetchplay/1";

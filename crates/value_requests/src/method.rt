@@ -3,7 +3,8 @@ ghost use Rattle.std.specs.Prelude.{◌≡◌, IfOk};
 ghost use Rattle.value_requests.specs.Methods as spec;
 
 use std::alloc::Global;
-use value_text::{Bytes, OutOfMemory, in_upper_case, is_among, is_among_fold};
+use value_bytes::{Bytes, OutOfMemory, in_upper_case};
+use value_text::{is_among, is_among_fold};
 
 /// The CORS-safelisted methods.
 const SAFELISTED_METHODS: [&[u8]; 3] = [b"GET", b"HEAD", b"POST"];

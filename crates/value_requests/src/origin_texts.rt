@@ -4,8 +4,8 @@ ghost use Rattle.value_requests.specs.OriginTexts as spec;
 
 use crate::urls::{url_alone, utf8_text};
 use std::alloc::Global;
+use value_bytes::OutOfMemory;
 use value_origins::{Origin, origin_of, serialize};
-use value_text::OutOfMemory;
 
 /// The origin that a table's text writes: that of an http or https URL whose serialisation (HTML,
 /// section 7.1.1) the text is, byte for byte. Any other text is refused by `None`: one that is not

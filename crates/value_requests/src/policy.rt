@@ -2,7 +2,7 @@
 ghost use Rattle.std.specs.Prelude.{◌≡◌};
 ghost use Rattle.value_requests.specs.Names.{destination_name, directive_name};
 
-use value_text::Bytes;
+use value_bytes::Bytes;
 
 /// What a request is for (Fetch, section 2.2.5): a `fetch`, or the load of a resource.
 #[derive(Clone, Copy, Debug, PartialEq, Eq)]

@@ -9,8 +9,9 @@ ghost use Rattle.value_requests.specs.declared.mode.ReferrerPolicy.TheVariants.{
 
 use crate::mode::ReferrerPolicy;
 use std::alloc::Global;
+use value_bytes::OutOfMemory;
 use value_headers::HeaderList;
-use value_text::{OutOfMemory, eq_fold, parts_between, trim_tab_or_space};
+use value_text::{eq_fold, parts_between, trim_tab_or_space};
 
 // The policies that a token names.
 const NAMED_POLICIES: [ReferrerPolicy; 8] = [

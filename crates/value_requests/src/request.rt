@@ -5,9 +5,9 @@ ghost use Rattle.value_requests.specs.Requests as spec;
 use crate::mode::{Credentials, Mode, RedirectMode, ReferrerPolicy, Tainting};
 use crate::policy::Destination;
 use url::Url;
+use value_bytes::{Bytes, Items};
 use value_headers::HeaderList;
 use value_origins::Origin;
-use value_text::{Bytes, Items};
 
 /// How many redirects are followed ("HTTP-redirect fetch", Fetch, section 4.4).
 pub const MOST_REDIRECTS: u32 = 20;

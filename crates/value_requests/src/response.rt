@@ -3,8 +3,8 @@ ghost use Rattle.std.specs.Prelude.{◌≡◌};
 ghost use Rattle.value_requests.specs.Names.{kind_name};
 
 use crate::error::NetError;
+use value_bytes::Bytes;
 use value_headers::PackedHeaders;
-use value_text::Bytes;
 
 /// How a body came to its end.
 #[derive(Drop)]

@@ -6,7 +6,7 @@ ghost use Rattle.value_requests.specs.Requests.{is_http_url};
 ghost use Rattle.value_requests.specs.Urls as spec;
 
 use url::{ParseResult, Position, Url};
-use value_text::OutOfMemory;
+use value_bytes::OutOfMemory;
 
 /// The text of a URL without its fragment. It takes no memory.
 pub fn without_fragment(url: &Url) -> &str

@@ -8,8 +8,8 @@ ghost use Rattle.value_requests.specs.Targets as spec;
 
 use std::alloc::Global;
 use url::{Position, Url};
+use value_bytes::{Bytes, OutOfMemory};
 use value_origins::{is_http_url, serialize_origin_of};
-use value_text::{Bytes, OutOfMemory};
 
 // The path, and the query where there is one; every URL is valid.
 fn path_and_query(url: &Url) -> &str

@@ -7,7 +7,7 @@ ghost use Rattle.value_requests.specs.TextSets.{has_text};
 use std::alloc::Global;
 use std::collections::BTreeSet;
 use std::marker::Model;
-use value_text::{Bytes, OutOfMemory, in_lower_case};
+use value_bytes::{Bytes, OutOfMemory, in_lower_case};
 
 /// A set of texts, seen as the list of them, for where many are looked up among many.
 #[derive(Drop)]

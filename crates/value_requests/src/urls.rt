@@ -7,7 +7,7 @@ ghost use Rattle.value_requests.specs.Urls as spec;
 
 use std::alloc::Global;
 use url::{ParseError, Url};
-use value_text::OutOfMemory;
+use value_bytes::OutOfMemory;
 
 /// How many bytes the text of a URL may have.
 const MOST_URL: usize = 8_192;

@@ -1,3 +1,2 @@
--- What the crate's private contracts alone cite: how a text is stored, and digits that are compared by their numbers.
-pub mod Stores
+-- What the crate's private contracts alone cite: digits that are compared by their numbers.
 pub mod Zeros

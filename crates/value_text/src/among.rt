@@ -3,7 +3,6 @@ ghost use Rattle.std.specs.Prelude.{◌≡◌, bytes_eq};
 ghost use Rattle.std.specs.List.{list_any};
 ghost use Rattle.std.specs.Str.{str_eq_ignore_ascii_case};
 
-use crate::bytes::Bytes;
 use crate::fold::eq_fold;
 
 /// Whether the text is one of these, byte for byte. It takes no memory.
@@ -18,18 +17,4 @@ pub fn is_among_fold(listed: &[&[u8]], text: &[u8]) -> bool
     ensures { result ≡ list_any (λ item. str_eq_ignore_ascii_case item.now text.now) listed.now }
 {
     listed.iter().any(|item| eq_fold(item, text))
-}
-
-/// Whether the list has this text, byte for byte. It takes no memory.
-pub fn has_text(texts: &[Bytes], text: &[u8]) -> bool
-    ensures { result ≡ list_any (λ item. bytes_eq item text.now) texts.now }
-{
-    texts.iter().any(|item| item.as_slice() == text)
-}
-
-/// Whether the list has this text, ASCII case aside. It takes no memory.
-pub fn has_text_fold(texts: &[Bytes], text: &[u8]) -> bool
-    ensures { result ≡ list_any (λ item. str_eq_ignore_ascii_case item text.now) texts.now }
-{
-    texts.iter().any(|item| eq_fold(item.as_slice(), text))
 }

@@ -1,10 +1,6 @@
-// ASCII case: texts that are equal but for it, and copies in lower and in upper case.
-ghost use Rattle.std.specs.Prelude.{◌≡◌, IfOk};
-ghost use Rattle.std.specs.Str.{str_eq_ignore_ascii_case, str_to_ascii_lowercase, str_to_ascii_uppercase};
-
-use crate::bytes::Bytes;
-use crate::memory::OutOfMemory;
-use std::alloc::Global;
+// Texts that are equal, ASCII case aside.
+ghost use Rattle.std.specs.Prelude.{◌≡◌};
+ghost use Rattle.std.specs.Str.{str_eq_ignore_ascii_case};
 
 /// Whether two texts are equal, ASCII case aside. It takes no memory.
 pub fn eq_fold(a: &[u8], b: &[u8]) -> bool
@@ -12,22 +8,4 @@ pub fn eq_fold(a: &[u8], b: &[u8]) -> bool
 {
     // most names come as they are looked for, and are compared faster as they are
     a == b || a.eq_ignore_ascii_case(b)
-}
-
-/// A copy of the text with its ASCII letters in lower case.
-pub fn in_lower_case(alloc: Global, text: &[u8]) -> Result<Bytes, OutOfMemory>
-    ensures { IfOk result (λ lower. lower ≡ str_to_ascii_lowercase text.now) }
-{
-    let mut lower = Vec::from_slice(alloc, text)?;
-    lower.as_mut_slice().make_ascii_lowercase();
-    Ok(Bytes::from_vec(lower))
-}
-
-/// A copy of the text with its ASCII letters in upper case.
-pub fn in_upper_case(alloc: Global, text: &[u8]) -> Result<Bytes, OutOfMemory>
-    ensures { IfOk result (λ upper. upper ≡ str_to_ascii_uppercase text.now) }
-{
-    let mut upper = Vec::from_slice(alloc, text)?;
-    upper.as_mut_slice().make_ascii_uppercase();
-    Ok(Bytes::from_vec(upper))
 }

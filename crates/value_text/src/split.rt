@@ -4,7 +4,6 @@ ghost use Rattle.std.specs.Char.{is_ascii_whitespace};
 ghost use Rattle.std.specs.List.{slice_split};
 ghost use Rattle.value_text.specs.Words as spec;
 
-use crate::memory::OutOfMemory;
 use std::alloc::{AllocError, Global};
 
 /// The parts of a text between such bytes, in order: one more than there are such bytes.
@@ -37,9 +36,9 @@ fn filled<'a>(alloc: Global, parts: &[&'a [u8]]) -> Result<Vec<&'a [u8]>, AllocE
 
 /// The words of a text: what is between its ASCII whitespace, which is tab, LF, FF, CR and space
 /// (Infra, "split on ASCII whitespace"). No word is empty.
-pub fn words(alloc: Global, text: &[u8]) -> Result<Vec<&[u8]>, OutOfMemory>
+pub fn words(alloc: Global, text: &[u8]) -> Result<Vec<&[u8]>, AllocError>
     ensures { IfOk result (λ words. map (λ word. word.now) words.items ≡ spec.words text.now) }
 {
     let parts = between_blanks(alloc, text)?;
-    Ok(filled(alloc, parts.as_slice())?)
+    filled(alloc, parts.as_slice())
 }

@@ -1,9 +1,7 @@
-// `*` in a list of methods or header names, and the name that it does not cover (Fetch, section 2.2.2).
+// `*` as a method or a header name, and the name that it does not cover (Fetch, section 2.2.2).
 ghost use Rattle.std.specs.Prelude.{◌≡◌};
 ghost use Rattle.value_text.specs.Wildcards as spec;
 
-use crate::among::has_text;
-use crate::bytes::Bytes;
 use crate::fold::eq_fold;
 
 /// The header name that `*` in a list of names does not cover ("CORS non-wildcard request-header
@@ -15,13 +13,6 @@ pub fn is_wildcard(text: &[u8]) -> bool
     ensures { result ≡ spec.is_wildcard text.now }
 {
     text == b"*".as_slice()
-}
-
-/// Whether the list has `*`. It takes no memory.
-pub fn has_wildcard(texts: &[Bytes]) -> bool
-    ensures { result ≡ spec.has_wildcard texts.now }
-{
-    has_text(texts, b"*")
 }
 
 /// Whether the header name is the one that `*` does not cover, ASCII case aside. It takes no

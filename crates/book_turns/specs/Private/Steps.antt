@@ -8,7 +8,7 @@ use Rattle.book_calls.specs.Book.{after, empty, reply}
 use Rattle.book_calls.specs.Entries.{entry, book_after, entries_of, Legal, AllTurnsBelow, StartsWith}
 use Rattle.book_calls.specs.declared.op.Op.{Op}
 use Rattle.book_calls.specs.declared.op.Reply.{Reply}
-use Rattle.value_text.specs.declared.memory.OutOfMemory.{OutOfMemory}
+use Rattle.value_bytes.specs.declared.memory.OutOfMemory.{OutOfMemory}
 use Rattle.book_turns.specs.declared.desk.Desk.{Desk}
 use Rattle.book_turns.specs.declared.view.View.{View}
 use Rattle.book_turns.specs.declared.view.Ended.{Ended}

@@ -47,12 +47,13 @@ pub record HasComeOn (old new : PeerTold) (before room : ℕ) : Type 0 where
   pub all : before + length rest + room ≡ most_read
   pub quiet : new.source.faults ≡ old.source.faults
 
--- after so many bytes the rest came, up to the end
+-- after so many bytes the rest came, up to the end, and no read failed
 pub record HasEnded (old new : PeerTold) (before : ℕ) : Type 0 where
   pub rest : Text
   pub gives : Gives old new rest
   pub few : before + length rest ≤ most_read
   pub over : IsOver new (before + length rest)
+  pub quiet : new.source.faults ≡ old.source.faults
 
 -- so many bytes came, and the source failed
 pub record HasFailed (old new : PeerTold) (before : ℕ) : Type 0 where

@@ -1,7 +1,9 @@
-use Rattle.play_documents.proofs.Words.{◌∙◌, ◌≡◌, IfOk-weaker, ap, inl, inr, length, map, refl, seat_of, seatings_of, sym}
+use Rattle.play_documents.proofs.Words.{◌∙◌, ◌≡◌, IfOk-weaker, ap, inl, inr, length, map, refl, seat_of, seatings_of}
+use Rattle.play_documents.proofs.Words.{sym}
 use Rattle.play_documents.proofs.Words.{transcripts_of}
 use Rattle.play_definitions.proofs.WorldLemmas.{on-err}
-use Rattle.play_documents.proofs.SeatLemmas.{belong-back, documents-after, documents-before, played-back, ready, written}
+use Rattle.play_documents.proofs.SeatLemmas.{belong-back, documents-after, documents-before, played-back, ready}
+use Rattle.play_documents.proofs.SeatLemmas.{written}
 use Rattle.play_documents.proofs.threads.play_all.Goals as goal
 
 pub returns-in_err-transcripts-clause-documents : goal.returns-in_err-transcripts-clause-documents

@@ -8,7 +8,8 @@ use Rattle.report_delivery.specs.Delivering.{Delivers}
 use Rattle.report_delivery.specs.Private.Queues.{reports_left}
 use Rattle.report_delivery.specs.Reporting.{ending_of, reports_played}
 use Rattle.report_delivery.specs.Reports.{report_requests}
-use Rattle.report_delivery.proofs.DeliveryLemmas.{delivery-cut, delivery-end, delivery-limit, delivery-report, delivery-start}
+use Rattle.report_delivery.proofs.DeliveryLemmas.{delivery-cut, delivery-end, delivery-limit, delivery-report}
+use Rattle.report_delivery.proofs.DeliveryLemmas.{delivery-start}
 use Rattle.report_delivery.proofs.DeliveryLemmas.{delivery-unshown, reached-refused, refused}
 use Rattle.report_delivery.proofs.delivery.deliver_reports.Goals as goal
 

@@ -1,7 +1,8 @@
 use Rattle.std.proofs.Common.{◌∙◌, ◌+◌, ap, sym, arith, List, ℕ, take, drop, length}
 use Rattle.server_tables.specs.Reading.{row_in, rows_from}
 use Rattle.server_tables.specs.declared.table.Row.{Row}
-use Rattle.server_tables.proofs.LineLemmas.{line-bad, line-good, line-open, lines, numbered-in, numbered-out, rows_after}
+use Rattle.server_tables.proofs.LineLemmas.{line-bad, line-good, line-open, lines, numbered-in, numbered-out}
+use Rattle.server_tables.proofs.LineLemmas.{rows_after}
 use Rattle.server_tables.proofs.LineLemmas.{some-left}
 use Rattle.server_tables.proofs.read.read_table.Goals as goal
 

@@ -8,7 +8,8 @@ use mir.Val.{Val, vptr}
 use prog.Model.{Model}
 use prog.Wp.{WpFn}
 use types.Logic.{Logic, sem}
-use types.Kit.{‵, raw, ◌⊛◌, given, prop, ◌$◌, ◌∵◌, !, qed, by, move, drop, keep, split, join, fsplit, regoal, suffices, learn, use1, done}
+use types.Kit.{‵, raw, ◌⊛◌, given, prop, ◌$◌, ◌∵◌, !, qed, by, move, drop, keep, split, join, fsplit, regoal, suffices}
+use types.Kit.{learn, use1, done}
 use types.Run.{stop, fld, of_opd, no_more, and_then, returns, enter}
 use types.Part.{agg, sub, whole}
 use types.ByLocal.{alloc_all, pass_all, free_all, look_at, get, get_in, sets}

@@ -9,8 +9,10 @@ use mir.Syntax.{named, tcons, tnil}
 use mir.Val.{Val, vptr, vcons, vnil}
 use prog.Wp.{Env}
 use types.Logic.{Logic, sem}
-use types.Kit.{‵, ◌⊛◌, given, some, later, at_ret, ◌$◌, ◌∵◌, !, qed, move, drop, keep, split, split3, join, group, fsplit, fsplit3, fjoin, fpack, pick, await, rewrite, suffices, learn, use0, use1, frame, done}
-use types.Run.{stop, fld, load, lit, of_opd, addr, bin, no_more, and_then, first, blocks, skips, branches, exec, returns, returns_within, enter}
+use types.Kit.{‵, ◌⊛◌, given, some, later, at_ret, ◌$◌, ◌∵◌, !, qed, move, drop, keep, split, split3, join, group}
+use types.Kit.{fsplit, fsplit3, fjoin, fpack, pick, await, rewrite, suffices, learn, use0, use1, frame, done}
+use types.Run.{stop, fld, load, lit, of_opd, addr, bin, no_more, and_then, first, blocks, skips, branches, exec}
+use types.Run.{returns, returns_within, enter}
 use types.Part.{agg, look_in, sub, whole}
 use types.Match.{live}
 use types.ByLocal.{alloc_all, pass_all, free_all, look_at, get, through, sets, sets_last, is, env}

@@ -17,7 +17,7 @@ pub struct Bytes {
 
 impl Model for Bytes {
     ghost use Rattle.std.specs.Prelude.{ℕ, List};
-    ghost use Rattle.value_text.specs.Private.Stores.{IsInOnePlace, whole};
+    ghost use Rattle.value_bytes.specs.Private.Stores.{IsInOnePlace, whole};
 
     ghost Value = { List ℕ };
 

@@ -1,7 +1,7 @@
 use Rattle.std.proofs.Common.{arith, ◌≡◌, ◌-◌, ◌<◌, ◌≤◌, ◌++◌, ◌∷◌, [], ℕ, List, length, take, set, suc, ap, ◌∙◌}
 use Rattle.std.proofs.lemmas.List.{set_split}
 use Rattle.std.proofs.Math.ListN.{drop_of_length-le}
-use Rattle.value_text.proofs.items.Items.set_last.Goals as goal
+use Rattle.value_bytes.proofs.items.Items.set_last.Goals as goal
 
 -- writing the last item leaves those before it
 set-last : {X : Type 0} (xs : List X) (i : ℕ) (y : X) → i < length xs → length xs ≤ suc i

@@ -1,5 +1,5 @@
 use Rattle.std.proofs.Common.{◌≡◌, take}
-use Rattle.value_text.proofs.list.BytesList.copy.Given as goal
+use Rattle.value_bytes.proofs.list.BytesList.copy.Given as goal
 
 abbrev pub invariant-loop-text : goal.invariant-loop-text
 invariant-loop-text l = l.texts.items ≡ take l.text-index l.self
