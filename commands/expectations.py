@@ -182,6 +182,7 @@ def outcome_of(test, is_net, patience, is_strict):
         return Outcome(test.name, [str(failure)])
     warned = list(warnings(text, scenario, told, test.scenario_name, is_net))
     warned += [(line, True) for line in unnamed(test.expect, told)] if is_strict else []
+    warned += [(line, True) for line in unknown(test.expect, test.scenario.decode("utf-8", "replace"))]
     faults = [line for line, is_fault in warned if is_fault and is_strict]
     by_strict = [ONLY_STRICT] if faults and not lines else []
     return Outcome(test.name, lines + (wholes if lines else []) + by_strict + faults,
@@ -213,6 +214,17 @@ def unnamed(expect, told):
               f'add "{verdicts.name_of(case.fetch, are_many)}": "{case.result.short()}", if that is meant'
     if len(left) > MOST_UNNAMED:
         yield f"warning: {len(left) - MOST_UNNAMED} more fetches and loads are not named: add them"
+
+
+def unknown(expect, scenario):
+    """A line for each request of "never sent" that is met whatever is played, since the scenario nowhere names it."""
+    for one in listed(expect.get("never sent", [])) if "${" not in scenario else []:
+        where = one.partition(" ")[2]
+        found = re.fullmatch(r"(?:https?://([^/?]*))?(/[^?]*)?.*", where)
+        for part in filter(None, found.groups() if found else [where]):
+            if part not in scenario:
+                yield f"warning: never sent: {one}: nothing in the scenario has {part}: is it spelt as it would be sent?"
+                break
 
 
 def whole_lines(scenario, told, passing, lacking, is_met):

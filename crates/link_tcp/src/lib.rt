@@ -7,8 +7,6 @@ mod end;
 mod link;
 mod links;
 mod routes;
-#[cfg(test)]
-mod tests;
 
 pub use accepts::TcpAccepts;
 pub use end::TcpEnd;

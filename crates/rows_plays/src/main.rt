@@ -12,11 +12,14 @@
 //     how.
 //     a word of `access.rt` of `rows_fetches`, a tab and texts: such a server by itself, and documents that ask it.
 //
-// Before them it plays documents on threads, over links that wait for each other: by the top call, as `gates.rt` of
-// `rows_runs` says, and by `play_all` itself, as `seats.rt` of `rows_fetches` does. And it
-// plays the same documents one after another, without threads.
+// Before them it plays links and a connection over TCP, as `tcp.rt` says, and then documents on threads, over links that
+// wait for each other: by the top call, as `gates.rt` of `rows_runs` says, and by `play_all` itself, as `seats.rt` of
+// `rows_fetches` does. And it plays the same documents one after another, without threads.
 #![tactic(auto)]
 
+mod tcp;
+
+use crate::tcp::play_tcp;
 use rows_fetches::{
     kind_of, play_access, play_group, play_on_seats, play_request, play_two_in_turn,
 };
@@ -161,11 +164,19 @@ fn run<R: Threads + Wait + Sync + Print + AllocGlobal>(rt: &R, text: &str) -> Re
     play_lines(rt, text)
 }
 
+// Plays what goes over TCP, and then all else.
+fn run_all(rt: HostRuntime, text: &str) -> Result<(), Failed> {
+    let mut shown = Shown::new(rt.alloc());
+    let played = play_tcp(rt, &mut shown);
+    print_played(&rt, played, shown)?;
+    run(&rt, text)
+}
+
 fn main(rt: HostRuntime) -> ExitCode {
     let Ok(text) = io::read_to_string(rt.alloc(), rt.stdin()) else {
         return ExitCode::FAILURE;
     };
-    match run(&rt, text.as_str()) {
+    match run_all(rt, text.as_str()) {
         Ok(()) => ExitCode::SUCCESS,
         Err(_) => ExitCode::FAILURE,
     }

@@ -6,5 +6,3 @@ mod words;
 
 pub use words::{Task, task_of};
 
-#[cfg(test)]
-mod tests;
