@@ -123,12 +123,10 @@ fn add_entries(text: &mut Bytes, entries: &[Keyed]) -> Result<(), OutOfMemory>
     Ok(())
 }
 
-/// The text of a book: a line with its name and the number of its format, the known hosts behind the line that counts
-/// them, and the entries of the preflight cache behind theirs. It is read back as this book.
-pub fn text_of(alloc: Global, book: &Book) -> Result<Bytes, OutOfMemory>
+// The lines of a book, one behind the other.
+fn lines_of(alloc: Global, book: &Book) -> Result<Bytes, OutOfMemory>
     ensures written { IfOk result (λ text. text ≡ book_text book.now) }
     ensures book { OnOk result (IsBook book.now) }
-    ensures read { IfOk result (λ text. read_book text ≡ Ok book.now) }
 {
     let hosts = book.hosts().copies(alloc)?;
     let entries = book.cache().copies(alloc)?;
@@ -137,6 +135,17 @@ pub fn text_of(alloc: Global, book: &Book) -> Result<Bytes, OutOfMemory>
     add_hosts(&mut text, hosts.as_slice())?;
     add_count(&mut text, b"entries ", entries.len())?;
     add_entries(&mut text, entries.as_slice())?;
+    Ok(text)
+}
+
+/// The text of a book: a line with its name and the number of its format, the known hosts behind the line that counts
+/// them, and the entries of the preflight cache behind theirs. It is read back as this book.
+pub fn text_of(alloc: Global, book: &Book) -> Result<Bytes, OutOfMemory>
+    ensures written { IfOk result (λ text. text ≡ book_text book.now) }
+    ensures book { OnOk result (IsBook book.now) }
+    ensures read { IfOk result (λ text. read_book text ≡ Ok book.now) }
+{
+    let text = lines_of(alloc, book)?;
     law_read_written();
     Ok(text)
 }
