@@ -1,3 +1,5 @@
+pub mod PartLemmas
+pub mod ScriptLemmas
 pub mod RunLemmas
 pub mod SeatLemmas
 mod Words

@@ -4,7 +4,7 @@ use Rattle.script_runs.specs.Traces.{stop}
 use Rattle.value_requests.specs.declared.client.Cookie.{Cookie}
 use Rattle.value_requests.specs.declared.client.Client.{Client}
 use Rattle.play_definitions.specs.Playing.{RunCameTo, RunCut, RunPlayed}
-use Rattle.play_script.specs.Parts.{ended_by}
+use Rattle.play_documents.specs.Parts.{ended_by}
 use Rattle.play_documents.proofs.Words.{[], ℕ, ◌++◌, ◌∙◌, ◌≡◌, ◌≢◌, Answering, Document, Ending, Err, Event, IsAtEnd}
 use Rattle.play_documents.proofs.Words.{IsIdle}
 use Rattle.play_documents.proofs.Words.{List, Memory, None, Ok, Option, OutOfMemory, Outside, PartCut, PartReached}
@@ -15,7 +15,7 @@ use Rattle.play_documents.proofs.Words.{append-nil, append_assoc, arith, beginni
 use Rattle.play_documents.proofs.Words.{finished}
 use Rattle.play_documents.proofs.Words.{outside_of, over, play-run, refl, script_run, setting, sym}
 use Rattle.play_definitions.proofs.WorldLemmas.{refuses-none, still}
-use Rattle.play_script.proofs.PartLemmas.{cut-here, played-cut}
+use Rattle.play_documents.proofs.PartLemmas.{cut-here, played-cut}
 
 -- ---- a script as the whole run
 

@@ -1,18 +1,18 @@
 // One document, played.
 ghost use Rattle.std.specs.Prelude.{◌<◌, ◌^◌, ◌≡◌, ◌≢◌, ◌≤◌, IfOk, OnErr, Some, length, slice_get};
 ghost use Rattle.play_definitions.specs.Playing.{RunCameTo};
-ghost use Rattle.play_script.specs.Parts as spec;
+ghost use Rattle.play_documents.specs.Parts as spec;
 ghost use Rattle.play_definitions.specs.Standings.{lent_setting};
 ghost use Rattle.play_documents.specs.Words.{AreValid, Document as OneDocument, IsAtEnd, IsClient, IsIdle, IsValid};
 ghost use Rattle.play_documents.specs.Words.{IsValidDocument, Memory, beginning, document_client, document_run};
 ghost use Rattle.play_documents.specs.Words.{exchange_of, finished, over_link, script_run};
 ghost use Rattle.play_definitions.specs.Worlds.{KeepsPass, most_calls, outside};
 
+use crate::commands::script;
 use book_calls::Share;
 use fetch_wire::Wire;
 use link_traits::Link;
 use play_definitions::{Fetcher, Lent, Player};
-use play_script::script;
 use policy_csp::Compiled;
 use script_events::{Ending, Events, Transcript};
 use script_runs::Running;

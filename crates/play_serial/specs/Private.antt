@@ -1,2 +1,0 @@
--- What the crate's private contracts alone cite: a play of some documents.
-pub mod SoFar
