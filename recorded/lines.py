@@ -65,8 +65,8 @@ def short_finding(page: int, one: dict[str, Any]) -> dict[str, Any]:
     return {"page": page, "entry": one["entry"], "method": one["method"], "url": shown(one["url"]),
             "kind": one["kind"], "verdict": one["verdict"], "failed": judging.is_failure(one),
             "certainty": one["certainty"], "result": one["result"], "directive": one["directive"],
-            "host": host_of(url) or url.partition(":")[0] + ":", "way": why.get("way", ""), "why": shown(why.get("condition", "")), "told": shown(one["told"]),
-            "rule": one["rule"]}
+            "host": host_of(url) or url.partition(":")[0] + ":", "way": why.get("way", ""),
+            "why": shown(why.get("condition", "")), "told": shown(one["told"]), "rule": one["rule"]}
 
 
 def short_difference(one: dict[str, Any]) -> dict[str, Any]:

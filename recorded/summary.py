@@ -11,7 +11,7 @@ from recorded.telling import BY, KINDS, MOST, count
 from recorded.verdicts import REFUSED, UNREACHED, WORDS
 
 Key = tuple[str, str, str]  # what comes of a request, by which directive or result, and its host
-PLACES = {word: place for place, word in enumerate((*ORDER, *WORDS))}
+WORDS_IN_ORDER = (*ORDER, *WORDS)
 NOTHING = (*doubts.IDLE, *doubts.UNREAD)
 
 
@@ -47,7 +47,7 @@ class Summary:
     def lines(self) -> Iterator[str]:
         yield from (f"with {change}" for change in self.changes)
         yield f"{count(self.count, 'recording')}: {self.outcome()}"
-        for word in PLACES:
+        for word in WORDS_IN_ORDER:
             own = sorted((key for key in self.recordings if key[0] == word), key=self.rank)
             yield from map(self.group_line, own[:MOST])
             yield from more(len(own))
@@ -75,8 +75,9 @@ class Summary:
 
     def policy_line(self) -> str:
         told = [f"{self.idle[name]} by {name}" for name in sorted(self.idle, key=lambda name: (-self.idle[name], name))]
-        idle = f", of which {sum(self.idle.values())} do nothing: {', '.join(told)}" if told else ""
-        return f"  {self.policies} {'policy' if self.policies == 1 else 'policies'} recorded{idle}"
+        idle = sum(self.idle.values())
+        what = f", of which {idle} {'does' if idle == 1 else 'do'} nothing: {', '.join(told)}" if told else ""
+        return f"  {self.policies} {'policy' if self.policies == 1 else 'policies'} recorded{what}"
 
 
 def more(number: int) -> Iterator[str]:
