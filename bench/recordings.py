@@ -39,8 +39,8 @@ def entry(number):
     failed = number % 50 == 0
     got = [("Content-Type", content), *(pair for pair in GOT if not failed or "Access" not in pair[0])]
     found = recordings.entry(
-        f"https://host{number % HOSTS}.test/assets/{number // 100}/{number:06d}.{ending}?v={number % 7}", kind, 200, got,
-        sent + ([("Origin", recordings.SHOP)] if is_cors else []), time=12.5, cache={}, timings={"wait": 9.5})
+        f"https://host{number % HOSTS}.test/assets/{number // 100}/{number:06d}.{ending}?v={number % 7}", kind, 200,
+        got, sent + ([("Origin", recordings.SHOP)] if is_cors else []), time=12.5, cache={}, timings={"wait": 9.5})
     found["startedDateTime"] = f"2026-12-01T06:{number // 1000 % 60:02d}:{number // 20 % 60:02d}.{number % 1000:03d}Z"
     found["_initiator"] = {"type": "parser", "url": recordings.SHOP + "/", "lineNumber": number}
     found["response"]["content"] = {"size": len(BODY), "mimeType": content, "text": BODY}
