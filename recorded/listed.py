@@ -1,7 +1,6 @@
 """The recordings that `--many` names: the files of a list, those of a folder, or the lines of a file."""
 from __future__ import annotations
 
-import gzip
 import itertools
 import os
 import zlib
@@ -74,8 +73,9 @@ def named(path: str) -> str:
 
 def lines_of(path: str) -> Iterator[Listed]:
     """Each line of a file that is not blank, packed or not."""
+    from gzip import GzipFile  # most calls do without
     file = open(path, "rb")
-    return listed_lines(path, gzip.GzipFile(fileobj=file) if file.peek(2).startswith(har.GZIP) else file)
+    return listed_lines(path, GzipFile(fileobj=file) if file.peek(2).startswith(har.GZIP) else file)
 
 
 def listed_lines(path: str, file: Any) -> Iterator[Listed]:

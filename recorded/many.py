@@ -3,6 +3,7 @@ of them come to."""
 from __future__ import annotations
 
 import json
+import signal
 import sys
 from contextlib import closing
 from typing import Any, BinaryIO, Iterator, Optional
@@ -18,6 +19,7 @@ EMPTY = b'{"format":1,"documents":[]}'
 
 def run(self: str, named: str, jobs: int, out: Optional[str], changes: Changes) -> int:
     """Writes the lines and the summary. The status is the largest of the lines, or that of what is wrong."""
+    signal.signal(signal.SIGTERM, lambda number, _: sys.exit(128 + number))  # which ends the processes too
     file: Optional[BinaryIO] = None
     summary = Summary(changes.told())
     try:

@@ -57,7 +57,8 @@ class Worker:
 
 def serve(work: Callable[[Any], bytes], link: Any, others: list[Any]) -> None:
     """Works on what comes, up to the end of the process that gives it out."""
-    signal.signal(signal.SIGINT, signal.SIG_DFL)  # Ctrl-C ends it without a word
+    for number in (signal.SIGINT, signal.SIGTERM):
+        signal.signal(number, signal.SIG_DFL)  # they end it without a word
     for one in others:
         one.close()  # else the end of that process would not be seen
     gc.disable()
