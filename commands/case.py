@@ -303,7 +303,9 @@ class Case:
     @property
     def varies(self):
         """Whether pages of other origins ask for the URL of the last request too, or may."""
-        return self.is_net or len(self.scenario.askers.get((self.request.origin, self.request.target), ())) > 1
+        if self.is_net or len(self.scenario.documents()) < 2:
+            return self.is_net
+        return len(self.scenario.askers.get((self.request.origin, self.request.target), ())) > 1
 
     @property
     def and_others(self):

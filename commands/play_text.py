@@ -113,7 +113,7 @@ def unescaped(text):
 
 def plain(text):
     """An escaped text, a character for each byte."""
-    return unescaped(text).decode("latin-1")
+    return unescaped(text).decode("latin-1") if "\\" in text else text
 
 
 class Reader:

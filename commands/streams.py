@@ -42,13 +42,17 @@ def write_lines(lines):
     write("".join(printable(line) + "\n" for line in lines))
 
 
-def write_json(data, **how):
+def as_json(data, **how):
     """As JSON, with all that is not ASCII told by its number: a server's answer may have any."""
     import json
     text = json.dumps(data, **(how or {"indent": 1}))
     if "\\ud" in text:  # perhaps of a character that is written as a pair
         text = json.dumps(without_halves(data), **(how or {"indent": 1}))
-    write(text + "\n")
+    return text
+
+
+def write_json(data, **how):
+    write(as_json(data, **how) + "\n")
 
 
 def write_json_line(data):

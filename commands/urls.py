@@ -1,4 +1,5 @@
 """What the rules of secure contexts ask of a URL (docs/rules/origins.md, docs/rules/mixed-content.md)."""
+import functools
 import ipaddress
 from urllib.parse import urlsplit
 
@@ -15,6 +16,7 @@ def host_of(url):
         return ""
 
 
+@functools.lru_cache(1024)
 def is_address(host):
     """Whether a host is an IP address."""
     try:

@@ -7,7 +7,7 @@ import os
 from typing import Any
 
 from commands import play_text, running, streams
-from commands.ask_words import POLICIES, known_host
+from commands.ask_words import POLICIES, jobs, known_host
 from recorded.known_hosts import is_domain
 from recorded.least import BY
 from recorded import changes, differences, har, judging, redacting, telling, writing
@@ -63,7 +63,8 @@ def read_words(self: str, words: list[str]) -> argparse.Namespace:
     """What the words say; wrong words end the program with the status 2."""
     parser = argparse.ArgumentParser(
         prog=self, allow_abbrev=False,
-        usage="%(prog)s RECORDING [changes] [--json|--brief] [--scenario DIR]\n       %(prog)s RECORDING --redact OUT",
+        usage="%(prog)s RECORDING [changes] [--json|--brief] [--scenario DIR]\n       %(prog)s RECORDING --redact OUT\n"
+              "       %(prog)s --many LIST|FOLDER [changes] [--jobs N] [--out FILE]",
         description="says what came of each request of a recording (HAR), why, and what changes would change",
         epilog="status: 0 nothing failed (with changes: nothing breaks), 1 something did, 2 wrong words or no HAR, "
                "3 no play")
@@ -99,16 +100,32 @@ def read_words(self: str, words: list[str]) -> argparse.Namespace:
     printed.add_argument("--scenario", metavar="DIR", help="write a scenario for each page, for bin/why")
     printed.add_argument("--redact", metavar="OUT",
                          help="write the recording without cookies, Authorization and bodies, and play nothing")
+    many = parser.add_argument_group("many recordings", "a line of JSON for each, and what all of them come to")
+    many.add_argument("--many", metavar="LIST|FOLDER",
+                      help="a list of files, one a line (- for standard input); or a folder with *.har and *.har.gz; "
+                           "or a file *.jsonl or *.jsonl.gz with a recording in each line")
+    many.add_argument("--jobs", metavar="N", type=jobs, help="recordings side by side (1)")
+    many.add_argument("--out", metavar="FILE", help="where the lines go; a run that was stopped goes on from there")
     given = parser.parse_args(words)
     if given.changes:
         given = parser.parse_args([*given.changes, *words])
+    refuse_together(parser, given)
+    return given
+
+
+def refuse_together(parser: argparse.ArgumentParser, given: argparse.Namespace) -> None:
+    """Ends the program where words stand together that exclude each other."""
+    if given.many is None and (given.jobs or given.out):
+        parser.error("--jobs and --out stand with --many")
+    if given.many is not None and any((given.recording, given.json, given.brief, given.scenario, given.redact,
+                                       given.suggest_csp)):
+        parser.error("--many stands without RECORDING, --json, --brief, --scenario, --redact and --suggest-csp")
     if given.no_csp and (given.csp is not None or given.csp_report_only is not None):
         parser.error("--no-csp stands without --csp and --csp-report-only")
     if given.suggest_csp and (given.redact or given.scenario or changes_of(given)):
         parser.error("--suggest-csp stands without changes, --redact and --scenario")
     if given.redact and given.scenario:
         parser.error("--redact stands without --scenario")
-    return given
 
 
 def changes_of(given: argparse.Namespace) -> changes.Changes:
@@ -118,6 +135,9 @@ def changes_of(given: argparse.Namespace) -> changes.Changes:
 
 def main(self: str, words: list[str]) -> int:
     given = read_words(self, words)
+    if given.many is not None:
+        from recorded import many  # what it needs takes a play's time to read
+        return many.run(self, given.many, given.jobs or 1, given.out, changes_of(given))
     gc.disable()  # nearly all that is made stays to the end, and looking through it again and again doubles the time
     name = given.recording or "standard input"
     if given.recording and os.path.isdir(given.recording):

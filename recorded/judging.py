@@ -81,13 +81,14 @@ def page_data(page: Page, judged: list[tuple[Part, list[Finding]]], recording: R
     if len(judged) > 1:
         notes.append(PARTS % (len(findings), len(judged)))
     parted = parting.of_findings(findings, page, recording)
+    doubted = doubts.of_page(page)
     return {
         "url": page.url, "top": page.top, "entry": page.entry.number if page.entry else None,
         "entries": count_of(page), "verdict": verdict_of(findings),
         "findings": [finding_data.data_of(finding) for finding in findings],
         "policies": policies_of(findings), "parts": parted,
         "left_out": [{"entry": entry.number, "url": entry.url, "why": why} for entry, why in page.left_out],
-        "warnings": doubts.of_page(page), "notes": notes}
+        "warnings": doubted.warnings, "lints": doubted.lints, "policy_count": doubted.policy_count, "notes": notes}
 
 
 def policies_of(findings: list[Finding]) -> list[str]:
@@ -117,5 +118,8 @@ def verdict_of(findings: list[Finding]) -> str:
 
 def fails(found: dict[str, Any]) -> bool:
     """Whether a request failed, or never reached its page."""
-    return any(one["failed"] or one["verdict"] in (verdicts.REFUSED, verdicts.UNREACHED)
-               for page in found["pages"] for one in page["findings"])
+    return any(is_failure(one) for page in found["pages"] for one in page["findings"])
+
+
+def is_failure(finding: dict[str, Any]) -> bool:
+    return finding["failed"] or finding["verdict"] in (verdicts.REFUSED, verdicts.UNREACHED)

@@ -62,7 +62,7 @@ class Group:
     def is_document(self, chain: Chain, kind: str) -> bool:
         """Whether a chain is the page itself; where nothing says what it is, the first that is the page's URL or
         HTML."""
-        if not origin_of(chain.last.url):
+        if not chain.last.origin:
             return False
         is_html = (chain.last.answered("Content-Type") or "").lower().startswith("text/html")
         is_first = self.top is None and chain.first.asked("Sec-Fetch-Dest") is None and not chain.first.resource_type

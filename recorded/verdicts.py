@@ -171,11 +171,14 @@ def weigh_credentials(finding: Finding, cases: Cases, tells_errors: bool) -> Non
     other = cases.other
     if other is None or finding.supposed != PASSING or not is_refused(other, finding.command):
         return
-    condition = f"had it credentials, which the recording would not show: {explanation_of(other).condition}"
     if finding.verdict in (REFUSED, UNREACHED) and way_of(other) != way_of(finding.case):
-        finding.how_sure += "; " + condition
+        finding.how_sure += "; " + had_credentials(other)
     elif finding.verdict == PASSED and not tells_errors:
-        finding.notes.append(condition)
+        finding.notes.append(had_credentials(other))
+
+
+def had_credentials(other: Case) -> str:
+    return f"had it credentials, which the recording would not show: {explanation_of(other).condition}"
 
 
 def basis(case: Case) -> str:

@@ -1,0 +1,73 @@
+"""The same question to many recordings: a line for each of them, in the order in which they are named, and what all
+of them come to."""
+from __future__ import annotations
+
+import json
+import signal
+import sys
+from contextlib import closing
+from typing import Any, BinaryIO, Iterator, Optional
+
+from commands import running, streams
+from recorded import kept, lines, listed, workers
+from recorded.changes import Changes
+from recorded.listed import Listed
+from recorded.summary import Summary
+
+EMPTY = b'{"format":1,"documents":[]}'
+
+
+def run(self: str, named: str, jobs: int, out: Optional[str], changes: Changes) -> int:
+    """Writes the lines and the summary. The status is the largest of the lines, or that of what is wrong."""
+    signal.signal(signal.SIGTERM, lambda number, _: sys.exit(128 + number))  # which ends the processes too
+    file: Optional[BinaryIO] = None
+    summary = Summary(changes.told())
+    try:
+        things = listed.all_of(named)
+        if out is not None:
+            file = kept.opened(out, summary.changes)
+            for line in kept.kept(file, things):
+                summary.add(line)
+        running.played(EMPTY)  # here, where it is not built yet, and not in each process
+    except listed.NoList as error:
+        return streams.complain(lines.WRONG, f"{self}: --many: {named} {error}")
+    except kept.NotKept as error:
+        return streams.complain(lines.WRONG, f"{self}: --out: {out}: {error}")
+    except OSError as error:
+        return streams.complain(lines.WRONG, f"{self}: --many: {named}: {error.strerror}")
+    except running.Failed as error:
+        return streams.complain(lines.FAILED, f"{self}: {error}")
+    return written(self, mapped(things, jobs, changes), file, summary)
+
+
+def mapped(things: Iterator[Listed], jobs: int, changes: Changes) -> Iterator[bytes]:
+    return workers.mapped(lines.work(changes), lines.packed_died, jobs, things)
+
+
+def written(self: str, made: Iterator[bytes], file: Optional[BinaryIO], summary: Summary) -> int:
+    with closing(made):
+        try:
+            for line in made:
+                write(file, line)
+                summary.add(json.loads(line))
+        except BrokenPipeError:
+            raise
+        except OSError as error:
+            return streams.complain(lines.FAILED, f"{self}: it ended: {error.strerror}")
+    tell(summary, sys.stdout if file else sys.stderr)
+    return summary.status
+
+
+def write(file: Optional[BinaryIO], line: bytes) -> None:
+    if file:
+        kept.write(file, line)
+    else:
+        sys.stdout.buffer.write(line)
+        sys.stdout.flush()
+
+
+def tell(summary: Summary, stream: Any) -> None:
+    sys.stdout.flush()
+    text = "".join(streams.printable(line) + "\n" for line in summary.lines())
+    stream.buffer.write(text.encode("utf-8", "backslashreplace"))
+    stream.flush()
