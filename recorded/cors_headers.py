@@ -10,7 +10,7 @@ from commands.needs import ALLOW_CREDENTIALS, ALLOW_ORIGIN, VARY
 from commands.scenario import origin_of
 from recorded import differences, finding_data, verdicts
 from recorded.changes import Changes
-from recorded.cors_search import Search, bare_of, is_by_cors, runs_of
+from recorded.cors_search import CORS, Search, bare_of, is_by_cors, runs_of
 from recorded.differences import BROKEN, DID_NOT, Judged
 from recorded.lacks import LISTS, STATUS, Key, Lack, value_of, with_lack
 from recorded.plays import played
@@ -20,7 +20,8 @@ from recorded.whereabouts import pattern_of
 
 FOR_CACHES = "a cache that keeps the answer would give it to pages of other origins too"
 UNPLAYED = "it could not be played with them"
-ASKED_THEN = "%s is asked then, of which no answer is recorded"
+ASKED_THEN = "%s is asked then, of which no answer is recorded: each answer of a chain is checked"
+FOR_ALL = "`*` lets pages of all origins read it, without credentials: else let the page ask for the last URL itself"
 Place = tuple[str, str]  # origin and request target
 
 
@@ -55,12 +56,19 @@ def suggested(judged: Judged, origin: str, changes: Changes) -> dict[str, Any]:
     for group in groups:
         prune(group, search)
     search.fill_with_credentials()
-    left = left_of(own, search)
+    outcomes = list(outcomes_of(own, search))
     refused = sum(map(is_by_cors, findings))
-    return {"origin": origin, "changes": changes.told(), "refused": refused, "passing": refused - len(left),
-            "groups": [data_of(group, search) for group in groups if group.lacks], "left": left,
-            "broken": broken_by(own, search), "others": [finding_data.data_of(finding) for finding in findings
-                                                         if finding.verdict in DID_NOT and not is_by_cors(finding)]}
+    return {"origin": origin, "changes": changes.told(), "refused": refused, "passing": refused - len(outcomes),
+            "groups": [data_of(group, search) for group in groups if group.lacks],
+            **{name: [own for is_open, own in outcomes if is_open == (name == "open")] for name in ("open", "left")},
+            "broken": broken_by(own, search), "others": [finding_data.data_of(one) for one in findings if is_other(one)]}
+
+
+def is_other(finding: Finding) -> bool:
+    """Whether a request is told as bin/har tells it: refused by another rule, or by CORS where the browser let it
+    pass."""
+    is_parted = finding.verdict == verdicts.PARTED and finding.case is not None and finding.case.result.number in CORS
+    return is_parted or finding.verdict in DID_NOT and not is_by_cors(finding)
 
 
 def of_origin(judged: Judged, origin: str, changes: Changes) -> Judged:
@@ -119,9 +127,9 @@ def prune(group: Group, search: Search) -> None:
 
 # ---- plays of the whole
 
-def left_of(own: Judged, search: Search) -> list[dict[str, Any]]:
-    """The requests that CORS refuses and that do not pass with the headers either, and why."""
-    found = []
+def outcomes_of(own: Judged, search: Search) -> Iterator[tuple[bool, dict[str, Any]]]:
+    """The requests that CORS refuses and that do not pass with the headers either, and why; before each whether it
+    goes on to what is not recorded."""
     for part, findings in [one for _, parts in own for one in parts]:
         after: dict[Supposed, dict[int, Case]] = {}
         for number, finding in enumerate(findings):
@@ -129,21 +137,22 @@ def left_of(own: Judged, search: Search) -> list[dict[str, Any]]:
                 supposed = bare_of(finding)
                 if supposed not in after:
                     after[supposed] = played(part, supposed, search.changed()).cases
-                why = why_left(finding, after[supposed].get(number))
-                found += [{"entry": finding.chain.first.number, "url": finding.chain.url, **why}] if why else []
-    return found
+                outcome = outcome_of(finding, after[supposed].get(number))
+                if outcome:
+                    named = {"entry": finding.chain.first.number, "url": finding.chain.url}
+                    yield outcome[0], {**named, "why": outcome[1], "change": outcome[2]}
 
 
-def why_left(finding: Finding, case: Optional[Case]) -> Optional[dict[str, Any]]:
-    """Why a request does not pass with the headers; None where it does."""
+def outcome_of(finding: Finding, case: Optional[Case]) -> Optional[tuple[bool, str, str]]:
+    """Whether it goes on to what is not recorded, why it does not pass, and what to change; None where it passes."""
     if case is None:
-        return {"why": UNPLAYED, "change": ""}
+        return False, UNPLAYED, ""
     if verdicts.is_unanswered(case):
-        return {"why": ASKED_THEN % case.asked_url, "change": ""}
+        return True, ASKED_THEN % case.asked_url, ""
     if not verdicts.is_refused(case, finding.command):
         return None
     explanation = verdicts.explanation_of(case)
-    return {"why": explanation.condition, "change": explanation.change}
+    return False, explanation.condition, explanation.change
 
 
 def broken_by(own: Judged, search: Search) -> list[dict[str, Any]]:
@@ -156,11 +165,18 @@ def broken_by(own: Judged, search: Search) -> list[dict[str, Any]]:
 
 def data_of(group: Group, search: Search) -> dict[str, Any]:
     """A group as data: its answers, each with its headers and the refusal that there is without one."""
-    numbers = sorted({finding.chain.first.number for finding in search.askers(group.all_keys)})
-    return {"urls": pattern_of([origin + target for origin, target in group.places]), "entries": numbers,
+    askers = search.askers(group.all_keys)
+    return {"urls": pattern_of([origin + target for origin, target in group.places]),
+            "entries": sorted({finding.chain.first.number for finding in askers}), "how_sure": unsure(askers),
             "answers": [{"method": method, "headers": list(headers_of(group, method, search))}
                         for method in sorted(group.lacks, key=lambda one: one != "OPTIONS")],
             "notes": list(notes_of(group, search))}
+
+
+def unsure(askers: list[Finding]) -> list[dict[str, str]]:
+    """How sure the refusals are, of those that are not."""
+    found = dict.fromkeys((finding.certainty, finding.how_sure) for finding in askers if finding.certainty != "sure")
+    return [{"certainty": certainty, "how_sure": how_sure} for certainty, how_sure in found]
 
 
 def headers_of(group: Group, method: str, search: Search) -> Iterator[dict[str, Any]]:
@@ -181,8 +197,9 @@ def notes_of(group: Group, search: Search) -> Iterator[str]:
         before = [one["replaces"] for one in told(search, group.places[0], method, lacks) if one["name"] == ALLOW_ORIGIN]
         yield from (f"pages of {value} go on to get theirs: answer by the request's Origin"
                     for value in filter(origin_of, filter(None, before)))
+        yield from [FOR_ALL] if (ALLOW_ORIGIN, "*") in lacks else []
     more = {(lack.name, lack.value): None for key in group.all_keys for lack in search.more[key]
             if lack not in search.lacks[key] and lack.name in (ALLOW_ORIGIN, ALLOW_CREDENTIALS)}
     if more:
         named = " and ".join(f"`{name}: {value}`" for name, value in more)
-        yield f"asked with credentials, which the recording would not show, they need {named} too"
+        yield f"asked with credentials, which the recording would not show: {named} too"

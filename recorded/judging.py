@@ -6,7 +6,8 @@ from collections import Counter
 from typing import Any
 
 from commands import whole_policies
-from recorded import cors_headers, differences, doubts, finding_data, least, parts as parting, replaying, verdicts
+from recorded import (cors_headers, differences, doubts, finding_data, hsts_hosts, least, parts as parting, replaying,
+                      verdicts)
 from recorded.changes import NONE, Changes
 from recorded.model import Page, Recording
 from recorded.plays import Played, played
@@ -38,6 +39,12 @@ def suggest_cors(recording: Recording, origin: str, changes: Changes = NONE) -> 
     """The least headers by which the requests pass that CORS refuses pages of an origin; raises cors_headers.NoPage."""
     judged = replaying.replayed(judged_pages(recording), changes)
     return {"suggested_cors": {**cors_headers.suggested(judged, origin, changes), **unread(recording)}}
+
+
+def suggest_hsts(recording: Recording, changes: Changes = NONE) -> dict[str, Any]:
+    """What breaks where the pages' hosts are known to want https, and which header is safe to send."""
+    judged = replaying.replayed(judged_pages(recording), changes)
+    return {"suggested_hsts": {**hsts_hosts.suggested(judged, recording, changes), **unread(recording)}}
 
 
 def judged_pages(recording: Recording) -> differences.Judged:

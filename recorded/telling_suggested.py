@@ -6,7 +6,8 @@ from typing import Any, Iterator
 from commands.edits import LONGEST_BEFORE
 from commands.verdicts import shown
 from recorded.lacks import STATUS
-from recorded.telling import MOST, bad_lines, count, finding_lines, some
+from recorded.hsts_hosts import NAME
+from recorded.telling import SURE, bad_lines, count, finding_lines, group_lines, some
 
 UNKNOWN = ", where it does not send that yet"
 
@@ -16,7 +17,8 @@ def cors_lines(found: dict[str, Any], is_brief: bool) -> Iterator[str]:
     yield from (f"with {change}" for change in found["changes"])
     yield cors_outcome(found)
     for group in found["groups"]:
-        yield from brief_group(group) if is_brief else group_lines(group)
+        yield from brief_answers(group) if is_brief else answer_lines(group)
+    yield from (f"  goes on: entry {one['entry']}, {shown(one['url'])}: {one['why']}" for one in found["open"])
     yield from (f"  refused all the same: entry {one['entry']}, {shown(one['url'])}: {one['why']}"
                 + (f"; {one['change']}" if one["change"] else "") for one in found["left"])
     yield from (f"  would be refused with these headers: entry {one['entry']}, {shown(one['url'])}: {one['why']}"
@@ -27,21 +29,25 @@ def cors_lines(found: dict[str, Any], is_brief: bool) -> Iterator[str]:
 
 
 def cors_outcome(found: dict[str, Any]) -> str:
+    """How many are refused, and what they come to with the headers."""
     if not found["refused"]:
         return f"CORS refuses no request of pages of {found['origin']}"
-    how_many = "all" if found["passing"] == found["refused"] else str(found["passing"])
-    passing = f"{how_many} of them {'passes' if how_many == '1' else 'pass'}" if found["refused"] > 1 else "it passes"
-    if not found["passing"]:
-        passing = "by no header they pass" if found["refused"] > 1 else "by no header it passes"
-        return f"CORS refuses {count(found['refused'], 'request')} of pages of {found['origin']}: {passing}"
-    return f"CORS refuses {count(found['refused'], 'request')} of pages of {found['origin']}: {passing} with these headers"
+    refused = f"CORS refuses {count(found['refused'], 'request')} of pages of {found['origin']}"
+    if not found["groups"]:
+        return f"{refused}, and no header lets {'it' if found['refused'] == 1 else 'them'} pass"
+    told = [f"{number} {one if number == 1 else more}" for number, one, more in (
+        (found["passing"], "passes", "pass"),
+        (len(found["open"]), "goes on to what is not recorded", "go on to what is not recorded"),
+        (len(found["left"]), "is refused all the same", "are refused all the same")) if number]
+    return f"{refused}: with these headers {', '.join(told)}"
 
 
-def group_lines(group: dict[str, Any]) -> Iterator[str]:
+def answer_lines(group: dict[str, Any]) -> Iterator[str]:
     for answer in group["answers"]:
         yield f"  {place_of(group)}: the answer to {answer['method']} needs"
         for header in answer["headers"]:
             yield from header_lines(header)
+    yield from (f"    {SURE[one['certainty']]}: {one['how_sure']}" for one in group["how_sure"])
     yield from (f"    note: {note}" for note in group["notes"])
 
 
@@ -49,7 +55,7 @@ def place_of(group: dict[str, Any]) -> str:
     return f"{shown(group['urls'])} ({count(len(group['entries']), 'request')})"
 
 
-def brief_group(group: dict[str, Any]) -> Iterator[str]:
+def brief_answers(group: dict[str, Any]) -> Iterator[str]:
     for answer in group["answers"]:
         yield f"  {place_of(group)}: the answer to {answer['method']} needs {', '.join(map(named, answer['headers']))}"
 
@@ -75,3 +81,61 @@ def header_lines(header: dict[str, Any]) -> Iterator[str]:
 
 def refused(proof: dict[str, Any]) -> str:
     return f"entry {proof['entry']} is refused: {proof['why']}"
+
+
+# ---- Strict-Transport-Security
+
+def hsts_lines(found: dict[str, Any], is_brief: bool) -> Iterator[str]:
+    """What each host's header would do, and at the end which one is safe."""
+    yield from (f"with {change}" for change in found["changes"])
+    for one in found["hosts"]:
+        yield from under_lines(f"{one['host']} and its subdomains", one["with_subdomains"], is_brief)
+        if one["alone"] is not None:
+            yield from under_lines(f"{one['host']} alone", one["alone"], is_brief)
+    yield from some(found["uncovered"], lambda one: f"  no header covers {one['origin']}{requests_of(one)}: {one['why']}")
+    yield from map(safe_line, found["hosts"])
+    if not found["hosts"]:
+        yield f"{NAME}: none is safe to send: no page of the recording is of a host that may be known"
+    elif not is_brief:
+        yield f"  note: {found['unseen']}"
+    yield from bad_lines(found)
+
+
+def requests_of(one: dict[str, Any]) -> str:
+    return f" ({count(len(one['entries']), 'http request')})" if one["entries"] else ""
+
+
+def under_lines(name: str, under: dict[str, Any], is_brief: bool) -> Iterator[str]:
+    """What the pages and requests of a host come to."""
+    yield f"{name} known to want https (HSTS): {hsts_outcome(under)}"
+    yield from some(under["pages"], lambda one: f"  note: the page {shown(one['from'])} would itself be {shown(one['to'])}")
+    yield from some(under["origins"], origin_line)
+    yield from group_lines(under, is_brief)
+    yield from some(under["refused"], lambda one: f"  refused over http and over https: entry {one['entry']}, "
+                                                  f"{shown(one['url'])}: {one['why']}")
+
+
+def hsts_outcome(under: dict[str, Any]) -> str:
+    secured = sum(len(one["entries"]) for one in under["origins"])
+    broken = sum(group["count"] for group in under["groups"] if group["kind"] == "broken")
+    told = [f"{number} {what}" for number, what in (
+        (broken, "would be refused"), (secured, "would be asked over https")) if number]
+    verdict = "something breaks" if broken else "nothing breaks"
+    return f"{verdict}: " + (", ".join(told) if told else "nothing comes otherwise")
+
+
+def origin_line(one: dict[str, Any]) -> str:
+    port = " (the port stays)" if one["port_stays"] else ""
+    asked = f"  {count(len(one['entries']), 'request')} to {one['from']} would go over {one['to']}{port}"
+    answered = f"entry {one['answered']} is an https answer of it" if one["answered"] is not None else ""
+    failed = f"entry {one['failed']} failed there: {one['why']}" if one["failed"] is not None else ""
+    return f"{asked}: " + ("; ".join(filter(None, [failed, answered])) or "whether it answers is not recorded")
+
+
+def safe_line(one: dict[str, Any]) -> str:
+    """The header of a host that is safe to send by what is recorded, or why none is."""
+    sent = f" ({one['host']} sends `{one['sent']}`)" if one["sent"] else ""
+    if one["header"] is None:
+        return f"{one['host']}: no {NAME} is safe to send by what is recorded{sent}: {'; '.join(one['why'])}"
+    more = f"; not with its subdomains: {'; '.join(one['why'])}" if one["why"] else ""
+    return f"{one['host']}: `{NAME}: {one['header']}` is safe to send by what is recorded{sent}{more}"
