@@ -2,74 +2,47 @@
 are known hosts; and which header is safe to send, as far as the recording shows it."""
 from __future__ import annotations
 
-from dataclasses import dataclass, field, replace
+from dataclasses import replace
 from typing import Any, Iterator, Optional
 
 from commands.scenario import origin_of
-from commands.urls import host_of, is_address, scheme_of, secure
-from recorded import differences, errors, verdicts
+from commands.urls import host_of, is_address, is_trustworthy, scheme_of
+from recorded import differences, unplayed, verdicts
 from recorded.changes import Changes
-from recorded.differences import BROKEN, DID_NOT, MENDED, REPORTED, WITH, Judged
-from recorded.known_hosts import HEADER, is_domain
-from recorded.model import Entry, Page, Recording
-from recorded.verdicts import Finding
+from recorded.differences import BROKEN, DID_NOT, MENDED, REPORTED, UPGRADED, WITH, Judged
+from recorded.https_shown import Asked, Plain, follows, secured
+from recorded.known_hosts import HEADER, is_domain, is_known
+from recorded.model import Page, Recording
 
-AGE = 31536000  # seconds: a year
 NAME = "Strict-Transport-Security"
+AGE = 31536000  # seconds: a year
 # Labels below which names are given to others in many countries: co.uk, com.br. There is no public suffix list here.
 SECOND = ("ac", "co", "com", "edu", "gob", "gouv", "gov", "mil", "ne", "net", "or", "org")
 TOLD = (BROKEN, WITH, REPORTED, MENDED)
 ADDRESS = "an IP address is never a known host"
 LOCAL = "a localhost name is never a known host here"
+FRAME = "the frame %s is over http, which no page over https has"
+RELATIVE = ("the URLs of %s to a page's own origin are taken to be relative, and go with the page: a script, style, font "
+            "or fetch whose URL is written with `http:` would be refused as mixed content")
 UNSEEN = ("a recording does not show pages that were not visited, other subdomains, and whether https lasts: begin "
           "with a small max-age, as a browser keeps the host for that long")
-
-
-@dataclass
-class Shown:
-    """What a recording shows of an https origin: the first answer of it, and the first failure with its cause."""
-
-    answered: Optional[int] = None
-    failed: Optional[int] = None
-    why: str = ""
-
-    def data(self) -> dict[str, Any]:
-        return {"answered": self.answered, "failed": self.failed, "why": self.why}
-
-
-@dataclass
-class Plain:
-    """The recorded requests of an http origin: what they are over https."""
-
-    origin: str
-    entries: list[int] = field(default_factory=list)
-
-    @property
-    def secured(self) -> str:
-        return origin_of(secure(self.origin)) or ""
-
-    @property
-    def keeps_port(self) -> bool:
-        return self.origin.count(":") > 1 and not self.origin.endswith("]") and not self.origin.endswith(":443")
 
 
 def suggested(judged: Judged, recording: Recording, changes: Changes) -> dict[str, Any]:
     """All that is said; `judged` is as the changes have made it."""
     site = Site(judged, recording, changes)
-    hosts = [host_data(host, site) for host in site.hosts()]
-    return {"changes": changes.told(), "hosts": hosts, "uncovered": site.uncovered(),
-            "unseen": UNSEEN}
+    return {"changes": changes.told(), "hosts": [host_data(host, site) for host in site.hosts()],
+            "uncovered": site.uncovered(), "unseen": UNSEEN}
 
 
 def host_data(host: str, site: Site) -> dict[str, Any]:
     """What is said of one host: with its subdomains; and alone, where the header is not safe with them."""
     below = site.under(host, True)
     alone = site.under(host, False) if below["reasons"] else None
-    best = below if alone is None else alone
-    subdomains = "; includeSubDomains" if alone is None else ""
-    header = None if best["reasons"] else f"max-age={AGE}{subdomains}"
+    is_alone = alone is not None and not alone["reasons"]
+    header = f"max-age={AGE}; includeSubDomains" if alone is None else f"max-age={AGE}" if is_alone else None
     return {"host": host, "header": header, "sent": site.sent_by(host), "with_subdomains": below, "alone": alone,
-            "why": below["reasons"] if header is None or alone else []}
+            "why": below["reasons"]}
 
 
 class Site:
@@ -79,31 +52,7 @@ class Site:
         self.judged = judged
         self.recording = recording
         self.changes = changes
-        self.entries = [(entry, changes.moved(entry.bare_url)) for entry in recording.entries]
-        self.findings = {entry.number: finding for _, parts in judged for _, own in parts for finding in own
-                         for entry in finding.chain.entries}
-        self.shown = self.shown_over_https()
-
-    def shown_over_https(self) -> dict[str, Shown]:
-        """By the https origins."""
-        found: dict[str, Shown] = {}
-        for entry, url in self.entries:
-            if scheme_of(url) != "https" or entry.is_from_worker:
-                continue
-            shown, why = found.setdefault(origin_of(url) or "", Shown()), self.failure_of(entry)
-            if not entry.is_hidden and shown.answered is None:
-                shown.answered = entry.number
-            elif entry.is_hidden and why and shown.failed is None:
-                shown.failed, shown.why = entry.number, why
-        return found
-
-    def failure_of(self, entry: Entry) -> str:
-        """Why no answer came, where no rule of a fetch has kept the request back."""
-        finding, network = self.findings.get(entry.number), errors.of_network(entry.error)
-        if network:
-            return network
-        is_open = finding is not None and finding.verdict == verdicts.OPEN and finding.chain.last is entry
-        return "no answer came" if is_open and errors.other(entry.error, 0) is None else ""
+        self.asked = Asked(judged, recording, changes)
 
     # ---- hosts
 
@@ -114,85 +63,110 @@ class Site:
 
     def sent_by(self, host: str) -> Optional[str]:
         """The field that the host's own answers have, the last of them."""
-        values = [entry.got_values[HEADER][0] for entry, url in self.entries
+        values = [entry.got_values[HEADER][0] for entry, url in self.asked.entries
                   if HEADER in entry.got_values and scheme_of(url) == "https" and host_of(url) == host]
         return values[-1] if values else None
 
     def uncovered(self) -> list[dict[str, Any]]:
-        """Hosts without a name that may be known, of pages and of http requests."""
+        """Origins whose host has no name that may be known, of pages and of http requests."""
         urls = [self.changes.page_url(page.url) for page, _ in self.judged]
-        found: dict[str, list[int]] = {origin_of(url): [] for url in urls if not is_domain(host_of(url))}
-        for entry, url in self.entries:
+        found: dict[str, list[int]] = {origin_of(url) or "": [] for url in urls if not is_domain(host_of(url))}
+        for entry, url in self.asked.entries:
             if scheme_of(url) == "http" and not is_domain(host_of(url)):
-                found.setdefault(origin_of(url), []).append(entry.number)
+                found.setdefault(origin_of(url) or "", []).append(entry.number)
         return [{"origin": origin, "entries": numbers, "why": ADDRESS if is_address(host_of(origin)) else LOCAL}
                 for origin, numbers in found.items() if origin]
 
     # ---- under a header
 
     def under(self, host: str, below: bool) -> dict[str, Any]:
-        """What the pages and their requests come to where a host is known."""
+        """What the pages and their requests come to where a host is known, and why that is not safe."""
         changes = replace(self.changes, hsts=(*self.changes.hsts, (host, below)))
+        found = [one for number, own in enumerate(self.judged) for one in self.of_page(number, own, changes)]
+        told = [one for one in found if one["kind"] in TOLD]
+        kept = list(self.kept_back(host, below, {one["entry"] for one in told if one["kind"] == MENDED}))
+        plain = [one.data(self.asked.shown_of(one.secured)) for one in self.plain(host, below, changes, found, kept)]
+        frames = list(self.frames(changes))
         pages = [(self.changes.page_url(page.url), changes.page_url(page.url)) for page, _ in self.judged]
-        found = differences.of_pages(self.affected(host, below), changes, self.recording.browser)
-        told = [one for one in found["differences"] if one["kind"] in TOLD]
-        broken = {number for one in told if one["kind"] in (BROKEN, WITH) for number in self.chain_of(one["entry"])}
-        mended = {one["entry"] for one in told if one["kind"] == MENDED}
-        kept = self.kept_back(host, below, mended)
-        gone = broken | {number for one in kept for number in one["entries"]}
-        plain = [self.plain_data(one) for one in self.plain(host, below, gone)]
-        reasons = [*self.not_sent(host), *self.unknown(plain), *broken_reason(told)]
         return {"pages": [{"from": old, "to": new} for old, new in dict.fromkeys(pages) if old != new],
                 "origins": plain, "refused": kept, "differences": told, "groups": differences.groups_of(told),
-                "reasons": reasons}
+                "frames": frames, "notes": self.relative(changes),
+                "reasons": [*self.not_sent(host), *unsafe(plain), *broken_reason(told), *frames]}
 
-    def affected(self, host: str, below: bool) -> Judged:
-        """The pages that have something of the host over http: of the others nothing comes otherwise."""
-        return [(page, parts) for page, parts in self.judged
-                if any(is_plain(self.changes.moved(url), host, below) for url in urls_of(page))]
+    def is_moved(self, page: Page, changes: Changes) -> bool:
+        """Whether a page is at https by the header alone."""
+        return changes.page_url(page.url) != self.changes.page_url(page.url)
 
-    def chain_of(self, number: int) -> list[int]:
-        finding = self.findings.get(number)
-        return [entry.number for entry in finding.chain.entries] if finding else [number]
+    def of_page(self, number: int, own: tuple[Page, Any], changes: Changes) -> list[dict[str, Any]]:
+        """What comes otherwise of a page; of one that has nothing over http nothing does."""
+        page, parts = own
+        if not any(scheme_of(url) == "http" and is_known(host_of(self.changes.moved(url)), changes.known_hosts())
+                   for url in urls_of(page)):
+            return []
+        if self.is_moved(page, changes):
+            parts = [(secured(part, findings, changes), findings) for part, findings in parts]
+        return differences.of_page(number, page, parts, changes, self.recording.browser)
 
-    def kept_back(self, host: str, below: bool, mended: set[int]) -> list[dict[str, Any]]:
+    def kept_back(self, host: str, below: bool, mended: set[int]) -> Iterator[dict[str, Any]]:
         """Requests of the host that are refused before they are sent, over http and over https."""
-        found = []
-        for finding in unique(self.findings.values()):
+        for finding in self.asked.of_findings():
             url = self.changes.moved(finding.chain.last.bare_url)
             is_before = finding.verdict in DID_NOT and finding.case is not None and finding.case.refused_before
-            if is_before and is_plain(url, host, below) and finding.chain.first.number not in mended:
+            number = finding.chain.first.number
+            if is_before and is_plain(url, host, below) and number not in mended:
                 why = verdicts.explanation_of(finding.case)
-                found.append({"entry": finding.chain.first.number, "url": url, "result": finding.case.result.short(),
-                              "why": why.condition if why else "", "entries": self.chain_of(finding.chain.first.number)})
-        return found
+                yield {"entry": number, "url": url, "result": finding.case.result.short(),
+                       "why": why.condition if why else ""}
 
-    def plain(self, host: str, below: bool, gone: set[int]) -> Iterator[Plain]:
-        """The http origins of the host whose requests would go over https."""
-        found: dict[str, Plain] = {}
-        for entry, url in self.entries:
-            if is_plain(url, host, below) and entry.number not in gone:
+    def plain(self, host: str, below: bool, changes: Changes, found: list[dict[str, Any]],
+              kept: list[dict[str, Any]]) -> list[Plain]:
+        """The http origins whose requests would be asked over https: those of the host, those that go with a page,
+        and those that a secure page has upgraded."""
+        gone = self.numbers([one for one in found if one["kind"] in (BROKEN, WITH)] + kept)
+        more = self.numbers([one for one in found if one["kind"] == UPGRADED])
+        more |= {number for page, parts in self.judged if self.is_moved(page, changes) for _, own in parts
+                 for finding in own if follows(finding, page) for number in self.asked.chain_of(finding.chain.first.number)}
+        by_origin: dict[str, Plain] = {}
+        for entry, url in self.asked.entries:
+            is_asked = is_plain(url, host, below) or entry.number in more and scheme_of(url) == "http"
+            if is_asked and entry.number not in gone:
                 origin = origin_of(url) or ""
-                found.setdefault(origin, Plain(origin)).entries.append(entry.number)
-        yield from found.values()
+                by_origin.setdefault(origin, Plain(origin)).entries.append(entry.number)
+        return list(by_origin.values())
 
-    def plain_data(self, one: Plain) -> dict[str, Any]:
-        return {"from": one.origin, "to": one.secured, "entries": one.entries, "port_stays": one.keeps_port,
-                **self.shown.get(one.secured, Shown()).data()}
+    def numbers(self, found: list[dict[str, Any]]) -> set[int]:
+        """The entries of all of these requests."""
+        return {number for one in found for number in self.asked.chain_of(one["entry"])}
 
-    # ---- why it is not safe
+    def frames(self, changes: Changes) -> Iterator[str]:
+        """Frames over http in a page that is at https then: mixed content, which is not played."""
+        for page, _ in self.judged:
+            if self.is_moved(page, changes):
+                urls = [changes.moved(entry.bare_url) for entry, why in page.left_out if why == unplayed.FRAME]
+                yield from (FRAME % url for url in dict.fromkeys(urls)
+                            if scheme_of(url) == "http" and not is_trustworthy(url) and origin_of(url) != origin_of(self.changes.page_url(page.url)))
+
+    def relative(self, changes: Changes) -> list[str]:
+        """Of how many requests nothing says that their URL goes with the page."""
+        count = sum(finding.command.asked.element is None and follows(finding, page) for page, parts in self.judged
+                    if self.is_moved(page, changes) for _, own in parts for finding in own)
+        return [RELATIVE % f"{count} request{'' if count == 1 else 's'}"] if count else []
 
     def not_sent(self, host: str) -> Iterator[str]:
-        """Over http the header is ignored."""
-        if not any(shown.answered is not None and host_of(origin) == host for origin, shown in self.shown.items()):
+        """That no answer may have the header: over http it is ignored."""
+        shown = self.asked.shown.items()
+        if not any(one.answered is not None and host_of(origin) == host for origin, one in shown):
             yield f"no https answer of {host} is recorded, and over http the header is ignored"
 
-    def unknown(self, plain: list[dict[str, Any]]) -> Iterator[str]:
-        for one in plain:
-            if one["failed"] is not None:
-                yield f"{one['to']} failed at entry {one['failed']}: {one['why']}"
-            elif one["answered"] is None:
-                yield f"whether {one['to']} answers is not recorded"
+
+# ---- why it is not safe
+
+def unsafe(plain: list[dict[str, Any]]) -> Iterator[str]:
+    for one in plain:
+        if one["failed"] is not None:
+            yield f"{one['to']} failed at entry {one['failed']}: {one['why']}"
+        elif one["answered"] is None:
+            yield f"whether {one['to']} answers is not recorded"
 
 
 def broken_reason(told: list[dict[str, Any]]) -> Iterator[str]:
@@ -201,9 +175,7 @@ def broken_reason(told: list[dict[str, Any]]) -> Iterator[str]:
         yield f"{count} request{'' if count == 1 else 's'} would be refused"
 
 
-def unique(findings: Any) -> list[Finding]:
-    return list({id(finding): finding for finding in findings}.values())
-
+# ---- names
 
 def is_plain(url: str, host: str, below: bool) -> bool:
     """Whether a URL is an http one of a host, or of one below it."""
@@ -221,5 +193,5 @@ def urls_of(page: Page) -> Iterator[str]:
 def parents(host: str) -> list[str]:
     """The names above a host, down to the one that is registered, as far as that is known without a list."""
     labels = host.split(".")
-    least = 3 if len(labels[-1]) == 2 and len(labels) > 1 and labels[-2] in SECOND else 2
+    least = 3 if len(labels) > 1 and len(labels[-1]) == 2 and labels[-2] in SECOND else 2
     return [] if labels[-1] == "" else [".".join(labels[place:]) for place in range(1, len(labels) - least + 1)]

@@ -117,7 +117,8 @@ class Entry:
 
 @dataclass(frozen=True)
 class Element:
-    """What the page's HTML says of a URL that it loads."""
+    """What the page's HTML says of a URL that it loads. It is whole where its scheme is written, and does not go with
+    the page's."""
 
     kind: str
     url: str
@@ -125,6 +126,7 @@ class Element:
     integrity: str = ""
     nonce: str = ""
     referrer_policy: str = ""
+    is_whole: bool = False
 
 
 @dataclass

@@ -90,52 +90,61 @@ def hsts_lines(found: dict[str, Any], is_brief: bool) -> Iterator[str]:
     yield from (f"with {change}" for change in found["changes"])
     for one in found["hosts"]:
         yield from under_lines(f"{one['host']} and its subdomains", one["with_subdomains"], is_brief)
-        if one["alone"] is not None:
+        if one["header"] and one["alone"]:
             yield from under_lines(f"{one['host']} alone", one["alone"], is_brief)
-    yield from some(found["uncovered"], lambda one: f"  no header covers {one['origin']}{requests_of(one)}: {one['why']}")
-    yield from map(safe_line, found["hosts"])
-    if not found["hosts"]:
-        yield f"{NAME}: none is safe to send: no page of the recording is of a host that may be known"
-    elif not is_brief:
+    yield from some(found["uncovered"], uncovered_line)
+    if not is_brief and found["hosts"]:
         yield f"  note: {found['unseen']}"
     yield from bad_lines(found)
+    yield from map(safe_line, found["hosts"])
+    if not found["hosts"]:
+        yield f"no {NAME} is safe to send: no page of the recording is of a host that may be known"
 
 
-def requests_of(one: dict[str, Any]) -> str:
-    return f" ({count(len(one['entries']), 'http request')})" if one["entries"] else ""
+def uncovered_line(one: dict[str, Any]) -> str:
+    requests = f" ({count(len(one['entries']), 'request')} over http)" if one["entries"] else ""
+    return f"  no header covers {one['origin']}{requests}: {one['why']}"
 
 
 def under_lines(name: str, under: dict[str, Any], is_brief: bool) -> Iterator[str]:
     """What the pages and requests of a host come to."""
-    yield f"{name} known to want https (HSTS): {hsts_outcome(under)}"
+    yield f"with {name} known to want https (HSTS)"
+    yield hsts_outcome(under)
     yield from some(under["pages"], lambda one: f"  note: the page {shown(one['from'])} would itself be {shown(one['to'])}")
     yield from some(under["origins"], origin_line)
     yield from group_lines(under, is_brief)
-    yield from some(under["refused"], lambda one: f"  refused over http and over https: entry {one['entry']}, "
-                                                  f"{shown(one['url'])}: {one['why']}")
+    yield from some(under["refused"], lambda one: f"  would be refused over https, as it is over http: entry "
+                                                  f"{one['entry']}, {shown(one['url'])}: {one['why']}")
+    if not is_brief:
+        yield from some(under["frames"] + under["notes"], lambda note: f"  note: {note}")
 
 
 def hsts_outcome(under: dict[str, Any]) -> str:
-    secured = sum(len(one["entries"]) for one in under["origins"])
-    broken = sum(group["count"] for group in under["groups"] if group["kind"] == "broken")
+    """How many requests break, and how many only go over https."""
+    failing = sum(len(one["entries"]) for one in under["origins"] if one["fails"])
+    asked = sum(len(one["entries"]) for one in under["origins"]) - failing
+    broken = sum(one["kind"] == "broken" for one in under["differences"])
     told = [f"{number} {what}" for number, what in (
-        (broken, "would be refused"), (secured, "would be asked over https")) if number]
-    verdict = "something breaks" if broken else "nothing breaks"
+        (broken, "would be refused"), (failing, "would fail over https"), (asked, "would be asked over https")) if number]
+    verdict = "something breaks" if broken or failing else "nothing breaks"
     return f"{verdict}: " + (", ".join(told) if told else "nothing comes otherwise")
 
 
 def origin_line(one: dict[str, Any]) -> str:
+    """What the requests to an http origin come to, and what the recording shows of it over https."""
     port = " (the port stays)" if one["port_stays"] else ""
-    asked = f"  {count(len(one['entries']), 'request')} to {one['from']} would go over {one['to']}{port}"
-    answered = f"entry {one['answered']} is an https answer of it" if one["answered"] is not None else ""
+    what = "fail over https" if one["fails"] else "be asked over https"
+    answered = f"entry {one['answered']} is an https answer" if one["answered"] is not None else ""
     failed = f"entry {one['failed']} failed there: {one['why']}" if one["failed"] is not None else ""
-    return f"{asked}: " + ("; ".join(filter(None, [failed, answered])) or "whether it answers is not recorded")
+    told = "; ".join(filter(None, [failed, answered])) or "whether it answers is not recorded"
+    return f"  {count(len(one['entries']), 'request')} to {one['from']} would {what}: {one['to']}{port}: {told}"
 
 
 def safe_line(one: dict[str, Any]) -> str:
     """The header of a host that is safe to send by what is recorded, or why none is."""
     sent = f" ({one['host']} sends `{one['sent']}`)" if one["sent"] else ""
+    why = "; ".join(one["why"])
     if one["header"] is None:
-        return f"{one['host']}: no {NAME} is safe to send by what is recorded{sent}: {'; '.join(one['why'])}"
-    more = f"; not with its subdomains: {'; '.join(one['why'])}" if one["why"] else ""
+        return f"{one['host']}: no {NAME} is safe to send by what is recorded{sent}: {why}"
+    more = f"; not with its subdomains: {why}" if why else ""
     return f"{one['host']}: `{NAME}: {one['header']}` is safe to send by what is recorded{sent}{more}"
