@@ -193,10 +193,11 @@ def headers_of(group: Group, method: str, search: Search) -> Iterator[dict[str, 
 
 def notes_of(group: Group, search: Search) -> Iterator[str]:
     """What may be otherwise, or more."""
+    moved = [old for old, _ in search.changes.origins]
     for method, lacks in group.lacks.items():
         before = [one["replaces"] for one in told(search, group.places[0], method, lacks) if one["name"] == ALLOW_ORIGIN]
         yield from (f"pages of {value} go on to get theirs: answer by the request's Origin"
-                    for value in filter(origin_of, filter(None, before)))
+                    for value in before if value and origin_of(value) and value not in moved)
         yield from [FOR_ALL] if (ALLOW_ORIGIN, "*") in lacks else []
     more = {(lack.name, lack.value): None for key in group.all_keys for lack in search.more[key]
             if lack not in search.lacks[key] and lack.name in (ALLOW_ORIGIN, ALLOW_CREDENTIALS)}

@@ -9,6 +9,7 @@ from recorded.lacks import STATUS
 from recorded.hsts_hosts import NAME
 from recorded.telling import SURE, bad_lines, count, finding_lines, group_lines, some
 
+MOST_REASONS = 5  # in a line
 UNKNOWN = ", where it does not send that yet"
 
 
@@ -143,8 +144,9 @@ def origin_line(one: dict[str, Any]) -> str:
 def safe_line(one: dict[str, Any]) -> str:
     """The header of a host that is safe to send by what is recorded, or why none is."""
     sent = f" ({one['host']} sends `{one['sent']}`)" if one["sent"] else ""
-    why = "; ".join(one["why"])
+    more = len(one["why"]) - MOST_REASONS
+    why = "; ".join(one["why"][:MOST_REASONS] + ([f"and {more} reasons more"] if more > 0 else []))
     if one["header"] is None:
         return f"{one['host']}: no {NAME} is safe to send by what is recorded{sent}: {why}"
-    more = f"; not with its subdomains: {why}" if why else ""
-    return f"{one['host']}: `{NAME}: {one['header']}` is safe to send by what is recorded{sent}{more}"
+    alone = f"; not with its subdomains: {why}" if why else ""
+    return f"{one['host']}: `{NAME}: {one['header']}` is safe to send by what is recorded{sent}{alone}"

@@ -9,7 +9,8 @@ def pattern_of(urls: list[str]) -> str:
     queried = ["?" in url for url in urls]
     end = "?*" if all(queried) else "*" if any(queried) else ""
     if len({len(path) for path in paths}) == 1:
-        return "/".join(pieces[0] if len(set(pieces)) == 1 else "*" for pieces in zip(*paths)) + end
+        path = "/".join(pieces[0] if len(set(pieces)) == 1 else "*" for pieces in zip(*paths))
+        return path if path.endswith("*") and end == "*" else path + end
     common = []
     for pieces in zip(*paths):
         if len(set(pieces)) > 1:
