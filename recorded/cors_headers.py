@@ -61,7 +61,8 @@ def suggested(judged: Judged, origin: str, changes: Changes) -> dict[str, Any]:
     return {"origin": origin, "changes": changes.told(), "refused": refused, "passing": refused - len(outcomes),
             "groups": [data_of(group, search) for group in groups if group.lacks],
             **{name: [own for is_open, own in outcomes if is_open == (name == "open")] for name in ("open", "left")},
-            "broken": broken_by(own, search), "others": [finding_data.data_of(one) for one in findings if is_other(one)]}
+            "broken": broken_by(own, search),
+            "others": [finding_data.data_of(one) for one in findings if is_other(one)]}
 
 
 def is_other(finding: Finding) -> bool:
@@ -76,7 +77,8 @@ def of_origin(judged: Judged, origin: str, changes: Changes) -> Judged:
     origins = [origin_of(changes.page_url(page.url)) for page, _ in judged]
     if origin not in origins:
         named = ", ".join(dict.fromkeys(filter(None, origins)))
-        raise NoPage(f"no page of the recording is of {origin}: " + (f"they are of {named}" if named else "it has none"))
+        what = f"they are of {named}" if named else "it has none"
+        raise NoPage(f"no page of the recording is of {origin}: {what}")
     return [one for one, own in zip(judged, origins) if own == origin]
 
 
@@ -195,7 +197,8 @@ def notes_of(group: Group, search: Search) -> Iterator[str]:
     """What may be otherwise, or more."""
     moved = [old for old, _ in search.changes.origins]
     for method, lacks in group.lacks.items():
-        before = [one["replaces"] for one in told(search, group.places[0], method, lacks) if one["name"] == ALLOW_ORIGIN]
+        headers = told(search, group.places[0], method, lacks)
+        before = [one["replaces"] for one in headers if one["name"] == ALLOW_ORIGIN]
         yield from (f"pages of {value} go on to get theirs: answer by the request's Origin"
                     for value in before if value and origin_of(value) and value not in moved)
         yield from [FOR_ALL] if (ALLOW_ORIGIN, "*") in lacks else []

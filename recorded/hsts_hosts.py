@@ -13,6 +13,7 @@ from recorded.differences import BROKEN, DID_NOT, MENDED, REPORTED, UPGRADED, WI
 from recorded.https_shown import Asked, Plain, follows, secured
 from recorded.known_hosts import HEADER, is_domain, is_known
 from recorded.model import Page, Recording
+from recorded.verdicts import Finding
 
 NAME = "Strict-Transport-Security"
 AGE = 31536000  # seconds: a year
@@ -22,8 +23,8 @@ TOLD = (BROKEN, WITH, REPORTED, MENDED)
 ADDRESS = "an IP address is never a known host"
 LOCAL = "a localhost name is never a known host here"
 FRAME = "the frame %s is over http, which no page over https has"
-RELATIVE = ("the URLs of %s to a page's own origin are taken to be relative, and go with the page: a script, style, font "
-            "or fetch whose URL is written with `http:` would be refused as mixed content")
+RELATIVE = ("the URLs of %s to a page's own origin are taken to be relative, and go with the page: a script, style, "
+            "font or fetch whose URL is written with `http:` would be refused as mixed content")
 UNSEEN = ("a recording does not show pages that were not visited, other subdomains, and whether https lasts: begin "
           "with a small max-age, as a browser keeps the host for that long")
 
@@ -124,8 +125,7 @@ class Site:
         and those that a secure page has upgraded."""
         gone = self.numbers([one for one in found if one["kind"] in (BROKEN, WITH)] + kept)
         more = self.numbers([one for one in found if one["kind"] == UPGRADED])
-        more |= {number for page, parts in self.judged if self.is_moved(page, changes) for _, own in parts
-                 for finding in own if follows(finding, page) for number in self.asked.chain_of(finding.chain.first.number)}
+        more |= self.numbers([{"entry": finding.chain.first.number} for finding in self.following(changes)])
         by_origin: dict[str, Plain] = {}
         for entry, url in self.asked.entries:
             is_asked = is_plain(url, host, below) or entry.number in more and scheme_of(url) == "http"
@@ -133,6 +133,12 @@ class Site:
                 origin = origin_of(url) or ""
                 by_origin.setdefault(origin, Plain(origin)).entries.append(entry.number)
         return list(by_origin.values())
+
+    def following(self, changes: Changes) -> Iterator[Finding]:
+        """The requests that go with a page which is at https then."""
+        for page, parts in self.judged:
+            if self.is_moved(page, changes):
+                yield from (finding for _, own in parts for finding in own if follows(finding, page))
 
     def numbers(self, found: list[dict[str, Any]]) -> set[int]:
         """The entries of all of these requests."""
@@ -143,13 +149,13 @@ class Site:
         for page, _ in self.judged:
             if self.is_moved(page, changes):
                 urls = [changes.moved(entry.bare_url) for entry, why in page.left_out if why == unplayed.FRAME]
+                own = origin_of(self.changes.page_url(page.url))
                 yield from (FRAME % url for url in dict.fromkeys(urls)
-                            if scheme_of(url) == "http" and not is_trustworthy(url) and origin_of(url) != origin_of(self.changes.page_url(page.url)))
+                            if scheme_of(url) == "http" and not is_trustworthy(url) and origin_of(url) != own)
 
     def relative(self, changes: Changes) -> list[str]:
         """Of how many requests nothing says that their URL goes with the page."""
-        count = sum(finding.command.asked.element is None and follows(finding, page) for page, parts in self.judged
-                    if self.is_moved(page, changes) for _, own in parts for finding in own)
+        count = sum(finding.command.asked.element is None for finding in self.following(changes))
         return [RELATIVE % f"{count} request{'' if count == 1 else 's'}"] if count else []
 
     def not_sent(self, host: str) -> Iterator[str]:

@@ -111,7 +111,8 @@ def under_lines(name: str, under: dict[str, Any], is_brief: bool) -> Iterator[st
     """What the pages and requests of a host come to."""
     yield f"with {name} known to want https (HSTS)"
     yield hsts_outcome(under)
-    yield from some(under["pages"], lambda one: f"  note: the page {shown(one['from'])} would itself be {shown(one['to'])}")
+    yield from some(under["pages"],
+                    lambda one: f"  note: the page {shown(one['from'])} would itself be {shown(one['to'])}")
     yield from some(under["origins"], origin_line)
     yield from group_lines(under, is_brief)
     yield from some(under["refused"], lambda one: f"  would be refused over https, as it is over http: entry "
@@ -126,7 +127,8 @@ def hsts_outcome(under: dict[str, Any]) -> str:
     asked = sum(len(one["entries"]) for one in under["origins"]) - failing
     broken = sum(one["kind"] == "broken" for one in under["differences"])
     told = [f"{number} {what}" for number, what in (
-        (broken, "would be refused"), (failing, "would fail over https"), (asked, "would be asked over https")) if number]
+        (broken, "would be refused"), (failing, "would fail over https"), (asked, "would be asked over https"))
+            if number]
     verdict = "something breaks" if broken or failing else "nothing breaks"
     return f"{verdict}: " + (", ".join(told) if told else "nothing comes otherwise")
 
