@@ -98,7 +98,10 @@ def read_words(self: str, words: list[str]) -> argparse.Namespace:
     """What the words say; wrong words end the program with the status 2."""
     parser = argparse.ArgumentParser(
         prog=self, allow_abbrev=False,
-        usage="%(prog)s RECORDING [changes] [--json|--brief] [--scenario DIR]\n       %(prog)s RECORDING --redact OUT",
+        usage="%(prog)s RECORDING [changes] [--json|--brief] [--scenario DIR]\n"
+              "       %(prog)s RECORDING [changes] --suggest-cors ORIGIN|--suggest-hsts [--json|--brief]\n"
+              "       %(prog)s RECORDING --suggest-csp [--by host|path|scheme] [--json|--brief]\n"
+              "       %(prog)s RECORDING --redact OUT",
         description="says what came of each request of a recording (HAR), why, and what changes would change",
         epilog="status: 0 nothing failed (with changes: nothing breaks), 1 something did, 2 wrong words or no HAR, "
                "3 no play")

@@ -169,10 +169,15 @@ def data_of(group: Group, search: Search) -> dict[str, Any]:
     """A group as data: its answers, each with its headers and the refusal that there is without one."""
     askers = search.askers(group.all_keys)
     return {"urls": pattern_of([origin + target for origin, target in group.places]),
-            "entries": sorted({finding.chain.first.number for finding in askers}), "how_sure": unsure(askers),
-            "answers": [{"method": method, "headers": list(headers_of(group, method, search))}
+            "entries": numbers_of(askers), "how_sure": unsure(askers),
+            "answers": [{"method": method, "entries": numbers_of(search.askers(group.keys(method))),
+                         "headers": list(headers_of(group, method, search))}
                         for method in sorted(group.lacks, key=lambda one: one != "OPTIONS")],
             "notes": list(notes_of(group, search))}
+
+
+def numbers_of(askers: list[Finding]) -> list[int]:
+    return sorted({finding.chain.first.number for finding in askers})
 
 
 def unsure(askers: list[Finding]) -> list[dict[str, str]]:
@@ -200,7 +205,7 @@ def notes_of(group: Group, search: Search) -> Iterator[str]:
         headers = told(search, group.places[0], method, lacks)
         before = [one["replaces"] for one in headers if one["name"] == ALLOW_ORIGIN]
         yield from (f"pages of {value} go on to get theirs: answer by the request's Origin"
-                    for value in before if value and origin_of(value) and value not in moved)
+                    for value in before if value and origin_of(value) == value and value not in moved)
         yield from [FOR_ALL] if (ALLOW_ORIGIN, "*") in lacks else []
     more = {(lack.name, lack.value): None for key in group.all_keys for lack in search.more[key]
             if lack not in search.lacks[key] and lack.name in (ALLOW_ORIGIN, ALLOW_CREDENTIALS)}

@@ -22,7 +22,7 @@ SECOND = ("ac", "co", "com", "edu", "gob", "gouv", "gov", "mil", "ne", "net", "o
 TOLD = (BROKEN, WITH, REPORTED, MENDED)
 ADDRESS = "an IP address is never a known host"
 LOCAL = "a localhost name is never a known host here"
-FRAME = "the frame %s is over http, which no page over https has"
+FRAME = "the frame %s is over http, and a page over https shows none such"
 RELATIVE = ("the URLs of %s to a page's own origin are taken to be relative, and go with the page: a script, style, "
             "font or fetch whose URL is written with `http:` would be refused as mixed content")
 UNSEEN = ("a recording does not show pages that were not visited, other subdomains, and whether https lasts: begin "

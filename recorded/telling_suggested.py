@@ -45,20 +45,20 @@ def cors_outcome(found: dict[str, Any]) -> str:
 
 def answer_lines(group: dict[str, Any]) -> Iterator[str]:
     for answer in group["answers"]:
-        yield f"  {place_of(group)}: the answer to {answer['method']} needs"
+        yield f"  {needs(group, answer)}"
         for header in answer["headers"]:
             yield from header_lines(header)
     yield from (f"    {SURE[one['certainty']]}: {one['how_sure']}" for one in group["how_sure"])
     yield from (f"    note: {note}" for note in group["notes"])
 
 
-def place_of(group: dict[str, Any]) -> str:
-    return f"{shown(group['urls'])} ({count(len(group['entries']), 'request')})"
+def needs(group: dict[str, Any], answer: dict[str, Any]) -> str:
+    return f"{shown(group['urls'])} ({count(len(answer['entries']), 'request')}): the answer to {answer['method']} needs"
 
 
 def brief_answers(group: dict[str, Any]) -> Iterator[str]:
     for answer in group["answers"]:
-        yield f"  {place_of(group)}: the answer to {answer['method']} needs {', '.join(map(named, answer['headers']))}"
+        yield f"  {needs(group, answer)} {', '.join(map(named, answer['headers']))}"
 
 
 def named(header: dict[str, Any]) -> str:
@@ -115,8 +115,8 @@ def under_lines(name: str, under: dict[str, Any], is_brief: bool) -> Iterator[st
                     lambda one: f"  note: the page {shown(one['from'])} would itself be {shown(one['to'])}")
     yield from some(under["origins"], origin_line)
     yield from group_lines(under, is_brief)
-    yield from some(under["refused"], lambda one: f"  would be refused over https, as it is over http: entry "
-                                                  f"{one['entry']}, {shown(one['url'])}: {one['why']}")
+    yield from some(under["refused"],
+                    lambda one: f"  refused all the same: entry {one['entry']}, {shown(one['url'])}: {one['why']}")
     if not is_brief:
         yield from some(under["frames"] + under["notes"], lambda note: f"  note: {note}")
 
