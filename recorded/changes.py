@@ -4,13 +4,14 @@ from __future__ import annotations
 
 import functools
 import re
-from dataclasses import dataclass
+from dataclasses import dataclass, field
 from typing import Any
 
 from commands.csp import HEADERS as POLICIES
 from commands.scenario import origin_of
 from commands.urls import host_of, secure
 from recorded.known_hosts import LATEST, is_known
+from recorded.lacks import Lacks
 
 Pairs = list[tuple[str, str]]
 AUTHORITY = re.compile(r"^[A-Za-z]+://[^/?#]*")
@@ -54,6 +55,7 @@ class Changes:
     upgrade: bool = False
     headers: tuple[HeaderChange, ...] = ()
     origins: tuple[tuple[str, str], ...] = ()  # of sites that move: the old one and the new one
+    lacks: Lacks = field(default_factory=dict)  # what single answers get that CORS wants of them
 
     def __bool__(self) -> bool:
         return self != Changes()

@@ -4,13 +4,15 @@ from __future__ import annotations
 import argparse
 import gc
 import os
-from typing import Any
+from typing import Any, Iterable
 
 from commands import play_text, running, streams
 from commands.ask_words import POLICIES, jobs, known_host
+from commands.scenario import origin_of
 from recorded.known_hosts import is_domain
 from recorded.least import BY
-from recorded import changes, differences, har, judging, redacting, telling, writing
+from recorded import changes, differences, har, judging, redacting, telling, telling_suggested, writing
+from recorded.cors_headers import NoPage
 
 GOOD, BAD, WRONG, FAILED = range(4)
 # The words of changes, and whether each has a value.
@@ -53,17 +55,58 @@ def domain(word: str) -> tuple[str, bool]:
     return host, has_subdomains
 
 
+def origin(word: str) -> str:
+    bare = word.strip().rstrip("/")
+    if origin_of(bare) != bare:
+        raise argparse.ArgumentTypeError("an origin is written as https://shop.example, without a path")
+    return bare
+
+
 def policy(word: str) -> str:
     if any(sign in word for sign in "\r\n\0"):
         raise argparse.ArgumentTypeError("a policy stands in one line")
     return word.strip()
 
 
+def add_suggestions(parser: argparse.ArgumentParser) -> None:
+    """The words that ask what is to be sent; one of them at a time."""
+    group = parser.add_argument_group("what to send")
+    one = group.add_mutually_exclusive_group()
+    one.add_argument("--suggest-csp", action="store_true", help="the least policy under which all that came passes")
+    one.add_argument("--suggest-cors", metavar="ORIGIN", type=origin,
+                     help="the least headers by which the requests pass that CORS refuses pages of this origin")
+    one.add_argument("--suggest-hsts", action="store_true",
+                     help="what breaks under Strict-Transport-Security of the pages' hosts, and which one is safe")
+    group.add_argument("--by", choices=BY, default="host",
+                       help="what the words of the policy name: host (as it is), path, or scheme")
+
+
+def check_together(parser: argparse.ArgumentParser, given: argparse.Namespace) -> None:
+    """Ends the program where words do not stand together."""
+    if given.many is None and (given.jobs or given.out):
+        parser.error("--jobs and --out stand with --many")
+    if given.many is not None and any((given.recording, given.json, given.brief, given.scenario, given.redact,
+                                       given.suggest_csp, given.suggest_cors, given.suggest_hsts)):
+        parser.error("--many stands without RECORDING, --json, --brief, --scenario, --redact and the words that suggest")
+    if given.no_csp and (given.csp is not None or given.csp_report_only is not None):
+        parser.error("--no-csp stands without --csp and --csp-report-only")
+    if given.suggest_csp and (given.redact or given.scenario or changes_of(given)):
+        parser.error("--suggest-csp stands without changes, --redact and --scenario")
+    for word, is_there in (("--suggest-cors", given.suggest_cors), ("--suggest-hsts", given.suggest_hsts)):
+        if is_there and (given.redact or given.scenario):
+            parser.error(f"{word} stands without --redact and --scenario")
+    if given.redact and given.scenario:
+        parser.error("--redact stands without --scenario")
+
+
 def read_words(self: str, words: list[str]) -> argparse.Namespace:
     """What the words say; wrong words end the program with the status 2."""
     parser = argparse.ArgumentParser(
         prog=self, allow_abbrev=False,
-        usage="%(prog)s RECORDING [changes] [--json|--brief] [--scenario DIR]\n       %(prog)s RECORDING --redact OUT\n"
+        usage="%(prog)s RECORDING [changes] [--json|--brief] [--scenario DIR]\n"
+              "       %(prog)s RECORDING [changes] --suggest-cors ORIGIN|--suggest-hsts [--json|--brief]\n"
+              "       %(prog)s RECORDING --suggest-csp [--by host|path|scheme] [--json|--brief]\n"
+              "       %(prog)s RECORDING --redact OUT\n"
               "       %(prog)s --many LIST|FOLDER [changes] [--jobs N] [--out FILE]",
         description="says what came of each request of a recording (HAR), why, and what changes would change",
         epilog="status: 0 nothing failed (with changes: nothing breaks), 1 something did, 2 wrong words or no HAR, "
@@ -90,9 +133,7 @@ def read_words(self: str, words: list[str]) -> argparse.Namespace:
                        help="a site that moves to another origin")
     asked.add_argument("--changes", metavar="FILE", type=words_of_file, default=[],
                        help="a file of these words, one a line: a name without --, a blank, and its value")
-    least = parser.add_argument_group("the least policy")
-    least.add_argument("--suggest-csp", action="store_true", help="the least policy under which all that came passes")
-    least.add_argument("--by", choices=BY, default="host", help="what its words name: host (as it is), path, or scheme")
+    add_suggestions(parser)
     printed = parser.add_argument_group("what is printed and written")
     form = printed.add_mutually_exclusive_group()
     form.add_argument("--brief", action="store_true", help="a line for each verdict alone")
@@ -109,23 +150,8 @@ def read_words(self: str, words: list[str]) -> argparse.Namespace:
     given = parser.parse_args(words)
     if given.changes:
         given = parser.parse_args([*given.changes, *words])
-    refuse_together(parser, given)
+    check_together(parser, given)
     return given
-
-
-def refuse_together(parser: argparse.ArgumentParser, given: argparse.Namespace) -> None:
-    """Ends the program where words stand together that exclude each other."""
-    if given.many is None and (given.jobs or given.out):
-        parser.error("--jobs and --out stand with --many")
-    if given.many is not None and any((given.recording, given.json, given.brief, given.scenario, given.redact,
-                                       given.suggest_csp)):
-        parser.error("--many stands without RECORDING, --json, --brief, --scenario, --redact and --suggest-csp")
-    if given.no_csp and (given.csp is not None or given.csp_report_only is not None):
-        parser.error("--no-csp stands without --csp and --csp-report-only")
-    if given.suggest_csp and (given.redact or given.scenario or changes_of(given)):
-        parser.error("--suggest-csp stands without changes, --redact and --scenario")
-    if given.redact and given.scenario:
-        parser.error("--redact stands without --scenario")
 
 
 def changes_of(given: argparse.Namespace) -> changes.Changes:
@@ -165,11 +191,32 @@ def redact(self: str, data: bytes, given: argparse.Namespace) -> int:
 
 def suggested(recording: Any, given: argparse.Namespace) -> int:
     found = judging.suggest(recording, given.by)
+    write(found, telling.suggested_lines(found["suggested"], given.brief), given)
+    return BAD if found["suggested"]["broken"] else GOOD
+
+
+def suggested_cors(self: str, recording: Any, given: argparse.Namespace) -> int:
+    try:
+        found = judging.suggest_cors(recording, given.suggest_cors, changes_of(given))
+    except NoPage as error:
+        return streams.complain(WRONG, f"{self}: --suggest-cors: {error}")
+    own = found["suggested_cors"]
+    write(found, telling_suggested.cors_lines(own, given.brief), given)
+    return BAD if own["refused"] else GOOD
+
+
+def suggested_hsts(recording: Any, given: argparse.Namespace) -> int:
+    found = judging.suggest_hsts(recording, changes_of(given))
+    own = found["suggested_hsts"]
+    write(found, telling_suggested.hsts_lines(own, given.brief), given)
+    return GOOD if any(one["header"] for one in own["hosts"]) else BAD
+
+
+def write(found: dict[str, Any], lines: Iterable[str], given: argparse.Namespace) -> None:
     if given.json:
         streams.write_json(found)
     else:
-        streams.write_lines(telling.suggested_lines(found["suggested"], given.brief))
-    return BAD if found["suggested"]["broken"] else GOOD
+        streams.write_lines(lines)
 
 
 def told(self: str, recording: Any, given: argparse.Namespace) -> int:
@@ -180,6 +227,10 @@ def told(self: str, recording: Any, given: argparse.Namespace) -> int:
             return streams.complain(WRONG, f"{self}: {wrong}")
     if given.suggest_csp:
         return suggested(recording, given)
+    if given.suggest_cors is not None:
+        return suggested_cors(self, recording, given)
+    if given.suggest_hsts:
+        return suggested_hsts(recording, given)
     found = judging.judge(recording, made)
     if given.json:
         streams.write_json(found)

@@ -13,6 +13,7 @@ from recorded.model import Element, Html
 # What `as` of a preload names, in the words of a load.
 PRELOADED = {"style": "style", "script": "script", "font": "font", "image": "image", "audio": "audio", "video": "video",
              "fetch": "fetch"}
+SCHEME = re.compile(r"\s*[A-Za-z][A-Za-z0-9+.-]*:")
 CANDIDATE = re.compile(r"\s*,*\s*(\S*[^\s,])(?:\s+[^,]*)?")
 LONGEST = 16777216  # bytes of a page that is read
 CROSSORIGIN = {"use-credentials": "use-credentials"}
@@ -25,6 +26,7 @@ class Reader(HTMLParser):
         super().__init__(convert_charrefs=True)
         self.base = url
         self.is_based = False
+        self.is_base_whole = False
         self.media = "video"
         self.is_in_body = False
         self.html = Html()
@@ -45,14 +47,16 @@ class Reader(HTMLParser):
         url = joined(text, self.base).partition("#")[0] if text.strip() else ""
         if "crossorigin" in given:
             crossorigin = CROSSORIGIN.get(given["crossorigin"].strip().lower(), "anonymous")
+        is_whole = self.is_base_whole and not text.strip().startswith("//") or SCHEME.match(text) is not None
         element = Element(kind, url, crossorigin, given.get("integrity", ""), given.get("nonce", ""),
-                          given.get("referrerpolicy", "").strip().lower())
+                          given.get("referrerpolicy", "").strip().lower(), is_whole)
         for one in {url, secure(url)} if url else ():
             self.html.elements.setdefault(one, []).append(element)
 
     def read_base(self, given: dict[str, str]) -> None:
         if given.get("href") and not self.is_based:
             self.base, self.is_based = joined(given["href"], self.base) or self.base, True
+            self.is_base_whole = SCHEME.match(given["href"]) is not None
 
     def read_body(self, given: dict[str, str]) -> None:
         self.is_in_body = True

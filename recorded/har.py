@@ -34,7 +34,7 @@ def read(data: bytes) -> Recording:
     found, bad = entries_of(log["entries"])
     creator = creator_of(log)
     recording = Recording(browser=browser_of(creator, found), creator=creator, tells_errors=tells_errors(creator),
-                          count=len(log["entries"]), bad=bad)
+                          count=len(log["entries"]), entries=found, bad=bad)
     pages.add(recording, titles_of(log), found)
     return recording
 

@@ -6,7 +6,8 @@ from collections import Counter
 from typing import Any
 
 from commands import whole_policies
-from recorded import differences, doubts, finding_data, least, parts as parting, verdicts
+from recorded import (cors_headers, differences, doubts, finding_data, hsts_hosts, least, parts as parting, replaying,
+                      verdicts)
 from recorded.changes import NONE, Changes
 from recorded.model import Page, Recording
 from recorded.plays import Played, played
@@ -19,10 +20,8 @@ PARTS = ("a page of %d requests is played in %d parts: the preflight cache is em
 def judge(recording: Recording, changes: Changes = NONE) -> dict[str, Any]:
     """All that is said of a recording; with changes, what they would change."""
     found = {"browser": recording.browser, "creator": recording.creator, "entries": recording.count,
-             "bad": [{"entry": number, "sentence": sentence} for number, sentence in recording.bad],
-             "notes": recording.notes}
-    judged = [(page, [(part, findings_of(part, recording)) for part in parts_of(page)])
-              for page in recording.pages]
+             **unread(recording)}
+    judged = judged_pages(recording)
     found["pages"] = [page_data(page, own, recording) for page, own in judged]
     if changes:
         found["changes"] = changes.told()
@@ -33,8 +32,30 @@ def judge(recording: Recording, changes: Changes = NONE) -> dict[str, Any]:
 
 def suggest(recording: Recording, by: str) -> dict[str, Any]:
     """The least policy under which all that was recorded passes."""
-    judged = [(page, [(part, findings_of(part, recording)) for part in parts_of(page)]) for page in recording.pages]
-    return {"suggested": least.suggested(judged, by)}
+    return {"suggested": least.suggested(judged_pages(recording), by)}
+
+
+def suggest_cors(recording: Recording, origin: str, changes: Changes = NONE) -> dict[str, Any]:
+    """The least headers by which the requests pass that CORS refuses pages of an origin; raises cors_headers.NoPage."""
+    judged = replaying.replayed(judged_pages(recording), changes)
+    return {"suggested_cors": {**cors_headers.suggested(judged, origin, changes), **unread(recording)}}
+
+
+def suggest_hsts(recording: Recording, changes: Changes = NONE) -> dict[str, Any]:
+    """What breaks where the pages' hosts are known to want https, and which header is safe to send."""
+    judged = replaying.replayed(judged_pages(recording), changes)
+    return {"suggested_hsts": {**hsts_hosts.suggested(judged, recording, changes), **unread(recording)}}
+
+
+def judged_pages(recording: Recording) -> differences.Judged:
+    """Each page with its parts, and what is said of their commands."""
+    return [(page, [(part, findings_of(part, recording)) for part in parts_of(page)]) for page in recording.pages]
+
+
+def unread(recording: Recording) -> dict[str, Any]:
+    """What could not be read of a recording."""
+    return {"bad": [{"entry": number, "sentence": sentence} for number, sentence in recording.bad],
+            "notes": recording.notes}
 
 
 def findings_of(part: Part, recording: Recording) -> list[Finding]:

@@ -117,7 +117,8 @@ class Entry:
 
 @dataclass(frozen=True)
 class Element:
-    """What the page's HTML says of a URL that it loads."""
+    """What the page's HTML says of a URL that it loads. It is whole where its scheme is written, and does not go with
+    the page's."""
 
     kind: str
     url: str
@@ -125,6 +126,7 @@ class Element:
     integrity: str = ""
     nonce: str = ""
     referrer_policy: str = ""
+    is_whole: bool = False
 
 
 @dataclass
@@ -193,13 +195,15 @@ class Page:
 
 @dataclass
 class Recording:
-    """All of it. `bad` are entries that could not be read, each with a sentence that says why."""
+    """All of it. `entries` are in the order of their times, and `bad` those that could not be read, each with a
+    sentence that says why."""
 
     browser: str  # chromium, firefox, or an empty text
     creator: str
     tells_errors: bool  # whether each answer that a rule has refused has an error word
     count: int
     pages: list[Page] = field(default_factory=list)
+    entries: list[Entry] = field(default_factory=list)
     bad: list[tuple[int, str]] = field(default_factory=list)
     notes: list[str] = field(default_factory=list)
 

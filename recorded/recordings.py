@@ -44,6 +44,20 @@ def plain(url: str, method: str = "GET", status: int = 200, sent: Any = (), got:
             "response": {"status": status, "headers": headers(got)}}
 
 
+def preflight(url: str, method: str, names: str, status: int, got: Any = ()) -> dict[str, Any]:
+    sent = [("Origin", SHOP), ("Access-Control-Request-Method", method), ("Access-Control-Request-Headers", names)]
+    found = entry(url, "preflight", status, got, sent)
+    found["request"]["method"] = "OPTIONS"
+    return found
+
+
+def failed(found: dict[str, Any], method: str = "GET", error: str = "net::ERR_FAILED") -> dict[str, Any]:
+    """An entry without an answer, or whose answer the browser has refused."""
+    found["request"]["method"] = method
+    found["response"]["_error"] = error
+    return found
+
+
 HTML = [("Content-Type", "text/html")]
 OPENED = [("Accept", "text/html,application/xhtml+xml,*/*;q=0.8")]
 REFERRED = [("Referer", SHOP + "/")]

@@ -15,6 +15,7 @@ from commands.scenario import origin_of
 from commands.urls import secure
 from recorded.changes import Changes
 from recorded.commands_of import Command, without_templates
+from recorded.lacks import Key, given
 from recorded.model import Chain, Entry
 
 # The headers of an answer that the rules of a fetch look at. The others are left out, so that answers which are alike
@@ -30,7 +31,6 @@ PLAIN_TARGET = re.compile(r"https?://[^/?#]+(/[\w/.~!$&()*+,;=:@%-]*(?:\?[\w/.~!
 # What the URL Standard leaves as it is in a path, and in a query.
 IN_PATH = "/%:@!$&'()*+,;=~-._|^[]{}\\"
 IN_QUERY = "/%:@!$&()*+,;=~-._|^[]{}\\?`"
-Key = tuple[str, str, str]  # origin, method, request target
 Rules = dict[Key, dict[str, Any]]
 
 
@@ -80,6 +80,8 @@ def rules_of(command: Command, page_origin: str, supposed: Supposed, changes: Ch
     if changes.may_upgrade:
         for (origin, method, target), rule in list(found.items()):
             found.setdefault((secure(origin), method, target), rule)
+    if changes.lacks:
+        found = {key: given(rule, changes.lacks.get(key, ())) for key, rule in found.items()}
     return found
 
 

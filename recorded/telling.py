@@ -141,13 +141,18 @@ def changed_lines(found: dict[str, Any], is_brief: bool) -> Iterator[str]:
     yield from (f"  warning: {warning}" for warning in found["warnings"])
     for moved in found["moved"]:
         yield f"  note: the page {shown(moved['from'])} would itself be {shown(moved['to'])}"
+    yield from group_lines(found, is_brief)
+    yield from bad_lines(found)
+
+
+def group_lines(found: dict[str, Any], is_brief: bool) -> Iterator[str]:
+    """The groups of differences, each with those that are in it."""
     for group in found["groups"]:
         own = [found["differences"][place] for place in group["differences"]]
         what = BY.get(group["kind"], KINDS[group["kind"]]).format(group["directive"])
         yield f"  {count(group['count'], 'request')} to {group['host']} {what}"
         if not is_brief:
             yield from some(own, difference_line)
-    yield from bad_lines(found)
 
 
 def suggested_lines(found: dict[str, Any], is_brief: bool) -> Iterator[str]:
