@@ -5,4 +5,3 @@ mod command;
 mod words;
 
 pub use words::{Task, task_of};
-
