@@ -56,8 +56,8 @@ CORS_CHECK = [
         "{c.allows}", ALLOW_ORIGIN, "{change}; or redirect within one origin", "redirects.md#origin-null", changes.origin_null),
     Way("cors/preflight-redirect", "7", lambda c: c.is_redirect,
         "the preflight is answered by a redirect ({c.status}) to {c.whereto}{c.next_differs}, and no redirect of a "
-        "preflight is followed, whatever headers it has", "Location", "{change}{c.look_for}", PREFLIGHT,
-        changes.next_url_or_cors),
+        "preflight is followed, whatever headers it has{c.no_cookie}", "Location",
+        "{c.before_login}{change}{c.look_for}", PREFLIGHT, changes.next_url_or_cors),
     Way("cors/preflight-login", "7", lambda c: c.allowed_origin is None and c.status in (401, 403, 407),
         "the answer to the preflight is {c.status}, without CORS headers: a preflight never carries a cookie or Authorization",
         ALLOW_ORIGIN, "let OPTIONS pass before the login is asked for: {change}", PREFLIGHT, changes.cors),
@@ -101,7 +101,8 @@ CORS_CHECK = [
 PREFLIGHTS = [
     Way("preflight/redirect", "8", lambda c: c.is_redirect,
         "the preflight is answered by a redirect ({c.status}) to {c.whereto}{c.next_differs}, and no redirect of a "
-        "preflight is followed", "Location", "{change}{c.look_for}", PREFLIGHT, changes.next_url_or_cors),
+        "preflight is followed{c.no_cookie}", "Location", "{c.before_login}{change}{c.look_for}", PREFLIGHT,
+        changes.next_url_or_cors),
     Way("preflight/login", "8", lambda c: c.status in (401, 403, 407),
         "the answer to the preflight is {c.status}: a preflight never carries a cookie or Authorization", "",
         "let OPTIONS pass before the login is asked for: {change}", PREFLIGHT, changes.cors),
@@ -482,7 +483,7 @@ TABLE = DIRECT + CORS_CHECK + PREFLIGHTS + BEFORE_SENDING + ANSWERS + LINKS + RE
 
 
 # Parts of conditions that are there for some fetches alone, and an answer that stands for that to a preflight too.
-SOMETIMES = re.compile(r"\{c\.(?:where|back_where|next_differs|but_known|why_scheme|but_gzip|but_length)\}")
+SOMETIMES = re.compile(r"\{c\.(?:where|back_where|next_differs|no_cookie|but_known|why_scheme|but_gzip|but_length)\}")
 
 
 def way_lines():
