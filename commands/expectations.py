@@ -4,7 +4,7 @@ import os
 import re
 
 from commands import (asking, edits, findings, json_text, known_hosts, lints, notes, play_text, policy_questions, refusals,
-                      results, running, streams, verdicts)
+                      results, running, streams, verdicts, wanted_refusals)
 from commands.asking import Wrong
 from commands.case import CAUSES
 from commands.explanations import TABLE, explain, lines_of
@@ -103,7 +103,7 @@ def of_outcome(place, value):
 
 
 def result_problem(wanted):
-    word = results.unknown_word(negated(wanted)[1])
+    word = results.unknown_word(results.negated(wanted)[1])
     if word is None:
         return None
     meant = refusals.nearest(word, results.WORDS)
@@ -299,13 +299,16 @@ def of_fetch(key, wanted, cases, passing):
         has = ", ".join(name for _, name in list(cases)[:20]) or "none"
         yield "%s: there is none; the play has %s" % (key, has)
         return
-    found = list(of_case(case, {"result": wanted} if isinstance(wanted, str) else wanted))
+    wanted = {"result": wanted} if isinstance(wanted, str) else wanted
+    found = list(of_case(case, wanted))
     yield from ("%s%s: %s" % (key, verdicts.asked(case), line) for _, line in found)
     failed = {name for name, _ in found}
     if found and "sees" in wanted:
         case.asked_by_test = list(wanted["sees"])
         case.explanation = explain(case)
-    if failed:
+    if failed and wanted_refusals.is_meant(wanted):
+        yield from ("  " + line for line in wanted_refusals.lines(case, wanted, failed))
+    elif failed:
         passing.append((case.fetch.document.number, case, True, "violations" in failed))
         yield from ("  " + line for line in lines_of(case, "violations" in failed, failed != {"violations"}))
 
@@ -324,14 +327,8 @@ def of_case(case, wanted):
     yield from ((key, line) for key, lines in told.items() for line in lines)
 
 
-def negated(wanted):
-    """Whether a wanted result is any but the one that follows, and that one."""
-    word, _, rest = wanted.partition(" ")
-    return (True, rest) if word == "not" and rest else (False, wanted)
-
-
 def is_met(wanted, result):
-    is_negated, rest = negated(wanted)
+    is_negated, rest = results.negated(wanted)
     return results.is_met(rest, result) is not is_negated
 
 

@@ -535,15 +535,19 @@ class Explanation:
         self.in_all = lines + [exposed(edit, c.own_head is None) for edit in self.exposing]
         self.in_all += c.lacking_over_https if way in MIXED_CONTENT else []
 
-    def lines(self):
-        """As it stands between the lines of a play."""
+    def reasons(self):
+        """As it stands between the lines of a play, without what to change."""
         lines = ["why: " + self.condition]
         if self.header:
             value = "is not there" if self.value is None else ": " + self.value
             value += "; is `%s` meant for it?" % self.misspelt if self.misspelt else ""
             lines.append("header: %s%s" % (self.header, value if value.startswith(":") else " " + value))
-        in_all = ["in all: " + line for line in self.in_all]
-        return lines + ["change: " + self.change, *in_all, "rule: %s (%s)" % (self.rule, self.way)]
+        return lines + ["rule: %s (%s)" % (self.rule, self.way)]
+
+    def lines(self):
+        """The same, with it."""
+        *reasons, rule = self.reasons()
+        return [*reasons, "change: " + self.change, *("in all: " + line for line in self.in_all), rule]
 
     def data(self):
         return {name: value for name, value in self.__dict__.items() if name != "first_change"}
@@ -559,8 +563,11 @@ class PolicyExplanation(Explanation):
         self.directive = c.violated.directive
         self.url = c.violated.url
 
+    def reasons(self):
+        return ["policy: " + self.condition]
+
     def lines(self):
-        return ["policy: " + self.condition, "change: " + self.change]
+        return [*self.reasons(), "change: " + self.change]
 
 
 # where no change is to be made
