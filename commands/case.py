@@ -331,7 +331,8 @@ class Case:
     @property
     def and_others(self):
         """That an origin which is allowed now may ask on."""
-        return "; pages of the other origins go on to get theirs" if self.varies else ""
+        return "; %s" % ("pages of the other origins go on to get theirs" if self.varies
+                         else "one that trusts both sends the one that asks")
 
     @property
     def the_answer(self):

@@ -89,7 +89,7 @@ CORS_CHECK = [
         CORS, changes.cors),
     Way("cors/other-origin", "7 12", lambda c: c.allowed_origin != c.origin,
         "{c.the_answer} allows `{c.allowed_origin}`, and the request is of `{c.origin}`", ALLOW_ORIGIN,
-        "{change}, where the server trusts this origin{c.and_vary}{c.and_others}", CORS, changes.cors),
+        "{change}, where the server trusts this origin{c.and_others}{c.and_vary}", CORS, changes.cors),
     Way("cors/credentials-absent", "7 12", lambda c: c.allowed_credentials is None,
         "the request has credentials, and {c.the_answer} has no Access-Control-Allow-Credentials", ALLOW_CREDENTIALS,
         "{change}", CORS, changes.cors_or_without_credentials),
