@@ -301,6 +301,13 @@ class Case:
         told = self.scenario.told_rules(self.answer.server)
         return "its rules are for " + ", ".join(told) if told else "it has no rules"
 
+    @property
+    def or_path(self):
+        """That another path would do, where the server has a rule for this method there."""
+        rules = self.scenario.servers()[self.answer.server]["rules"]
+        is_there = any(rule.get("method", self.request.method) == self.request.method for rule in rules)
+        return "; or ask for a path that has one" if is_there else ""
+
     @cached_property
     def needs(self):
         """What CORS wants of the answers at the URL of the last request."""

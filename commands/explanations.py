@@ -44,7 +44,7 @@ CORS_CHECK = [
     Way("cors/no-rule", "7 12", lambda c: c.has_no_rule,
         "the scenario's server {c.request.origin} has no rule for {c.request.method} {c.request.target}, so the answer is "
         "an empty 404 without CORS headers; {c.nearest_rule}", "",
-        "add a rule for this request: {change}; or ask for a path that has one", CORS, changes.no_rule),
+        "add a rule for this request: {change}{c.or_path}", CORS, changes.no_rule),
     Way("cors/tls-port-asked-in-plain", "7 12",
         lambda c: (c.is_net and not c.is_direct and c.status == 400 and c.request.origin.startswith("https:")
                    and c.allowed_origin is None),
@@ -432,7 +432,7 @@ REQUESTS = [
 SEEN = [
     Way("seen/no-rule", "s", lambda c: c.has_no_rule and c.result.type in ("basic", "loaded", "opaque"),
         "the scenario's server {c.request.origin} has no rule for {c.request.method} {c.request.target}, so the answer is "
-        "an empty 404; {c.nearest_rule}", "", "add a rule for this request: {change}; or ask for a path that has one",
+        "an empty 404; {c.nearest_rule}", "", "add a rule for this request: {change}{c.or_path}",
         "../scenario.md#servers", changes.no_rule),
     Way("seen/opaque", "s", lambda c: c.result.type == "opaque",
         "the mode is no-cors and the answer of another origin, so the script sees nothing of it: not its status {c.status}, "
@@ -575,9 +575,8 @@ NOTHING = "nothing is to be changed"
 
 
 def exposed(edit, is_unknown):
-    more = ", where it does not send that yet" if is_unknown else ""
     return (f"where the script is to see these headers too, the answer to {edit['method']} needs "
-            f"{edits.told(edit)}{more}")
+            f"{edits.told(edit)}{edits.UNSEEN if is_unknown else ''}")
 
 
 def misspelt(c, wanted):

@@ -139,7 +139,7 @@ class Needs:
                         for name, value in self.of_preflight() if is_missing(self.asked, name, value)]
 
     def own_edits(self):
-        return [edits.answer(self.method, self.url, name, value, replaced(self.own, name))
+        return [edits.answer(self.method, self.url, name, value, replaced(self.own, name), self.own is None)
                 for name, value in self.of_own() if is_missing(self.own, name, value)]
 
     def all_edits(self):
@@ -172,7 +172,7 @@ class Needs:
     def known(self):
         """What is to be said of an answer that did not come, or that has all that it needs."""
         if self.own is None:
-            return ", where it does not send that yet"
+            return edits.UNSEEN
         return "" if self.own_edits() else ", and has that"
 
 
