@@ -107,8 +107,14 @@ def places(scenario, budget):
 def asks_of(document):
     """What a document's script asks for, as far as its text says it: without what templates put in."""
     return [Ask(document["url"], given["kind"] if kind == "load" else "fetch", given["url"],
-                [name for name, _ in given.get("headers", [])], given.get("method"))
+                [name for name, _ in given.get("headers", [])], given.get("method"), includes(given))
             for _, kind, given in commands(document["script"]) if "${" not in given["url"]]
+
+
+def includes(given):
+    """Whether the options of a fetch or a load ask in mode cors, with credentials."""
+    is_of_cors = given.get("mode", "cors") == "cors"
+    return given.get("crossorigin") == "use-credentials" or given.get("credentials") == "include" and is_of_cors
 
 
 def asks_of_policies(scenario, number):
@@ -191,7 +197,7 @@ def of_answers(told_play):
 
 def headers_of(case, request, head):
     ask = Ask(case.document["url"], case.kind, case.command.url, [name for name, _ in case.command.headers],
-              request.method)
+              request.method, case.includes and case.command.options["mode"] == "cors")
     asks = ([], [ask]) if is_preflight(request) else ([ask], [])
     return Headers(ANSWER, head.headers, request.origin + request.target, *asks, is_real=True)
 
