@@ -4,7 +4,7 @@ import os
 import re
 
 from commands import (asking, edits, findings, json_text, known_hosts, lints, notes, play_text, policy_questions, refusals,
-                      results, running, streams, verdicts, wanted_refusals)
+                      results, running, streams, verdicts, wanted_refusals, wanted_requests)
 from commands.asking import Wrong
 from commands.case import CAUSES
 from commands.explanations import TABLE, explain, lines_of
@@ -74,7 +74,9 @@ def wrongs(key, value):
     """What is wrong at a key of `expect`: a node, its place, and a sentence."""
     if key.value in policy_questions.KEYS:
         yield from of_items(value, key.value, policy_questions.problem)
-    elif key.value not in OTHERS:
+    elif key.value in OTHERS:
+        yield from of_requests(value, key.value)
+    else:
         if not KEY.fullmatch(key.value):
             yield key, key.value, 'the key "%s" names no fetch: write "fetch 0", "load 2", "document 1 fetch 0", or one of %s' % (
                 key.value, ", ".join('"%s"' % one for one in OTHERS))
@@ -89,6 +91,13 @@ def of_items(value, place, problem):
             yield node, place, sentence
 
 
+def of_requests(value, place):
+    """The requests that are none."""
+    for node in value.items if value.kind == "list" else [value]:
+        text = node.member("request") if node.kind == "object" else node
+        yield from of_items(text, place, wanted_requests.problem)
+
+
 def of_outcome(place, value):
     if value.kind == "string":
         yield from of_items(value, place, result_problem)
@@ -100,6 +109,8 @@ def of_outcome(place, value):
                               ("upgraded", upgrade_problem)):
             if value.member(name) is not None:
                 yield from of_items(value.member(name), "%s/%s" % (place, name), problem)
+        if value.member("sent") is not None:
+            yield from of_requests(value.member("sent"), place + "/sent")
 
 
 def result_problem(wanted):
@@ -262,33 +273,24 @@ def differences(expect, told, passing):
 
 
 def listed(wanted):
-    return [wanted] if isinstance(wanted, str) else wanted
-
-
-def is_request(wanted, request):
-    """Whether a request has this method, and this target or URL where one is said."""
-    method, _, where = wanted.partition(" ")
-    return method == request.method and where in ("", request.target, request.origin + request.target)
-
-
-def named(request):
-    return "%s %s%s" % (request.method, request.origin, request.target)
+    return wanted if isinstance(wanted, list) else [wanted]
 
 
 def missing(told, wanted):
     requests = told.play.requests()
     for one in wanted:
-        if not any(is_request(one, request) for request in requests):
-            sent = ", ".join(map(named, requests[:20])) or "nothing"
-            yield "sent: expected %s; sent were %s" % (one, sent)
+        if not any(wanted_requests.is_met(one, request) for request in requests):
+            sent = ", ".join(wanted_requests.named(request, [one]) for request in requests[:20]) or "nothing"
+            yield "sent: expected %s; sent were %s" % (wanted_requests.told(one), sent)
 
 
 def unwanted(told, wanted):
     for case in told.cases:
         for request, _ in case.exchanges:
             for one in wanted:
-                if is_request(one, request):
-                    yield "never sent: expected no %s; %s sent %s" % (one, case.fetch.name, named(request))
+                if wanted_requests.is_met(one, request):
+                    sent = wanted_requests.named(request)
+                    yield "never sent: expected no %s; %s sent %s" % (one, case.fetch.name, sent)
 
 
 # ---- one fetch
@@ -370,9 +372,10 @@ def look_at_body(case, wanted):
 
 def look_at_requests(case, wanted):
     requests = [request for request, _ in case.exchanges]
-    if not (len(requests) == len(wanted) and all(map(is_request, wanted, requests))):
+    if not (len(requests) == len(wanted) and all(map(wanted_requests.is_met, wanted, requests))):
         yield "expected that it sends %s; it sent %s" % (
-            ", ".join(wanted) or "nothing", ", ".join(map(named, requests)) or "nothing")
+            ", ".join(map(wanted_requests.told, wanted)) or "nothing",
+            ", ".join(wanted_requests.named(request, wanted) for request in requests) or "nothing")
 
 
 def look_at_violations(case, wanted):

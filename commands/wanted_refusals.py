@@ -1,6 +1,6 @@
 """What bin/expect says of a fetch that a test wants refused, and that came to something else: why it was refused
 otherwise, or which headers let it in; and no change that would let it through."""
-from commands import edits, policy_questions, results
+from commands import edits, policy_questions, results, wanted_requests
 from commands.explanations import PREFLIGHTED, TABLE
 from commands.needs import ALLOW_CREDENTIALS, ALLOW_HEADERS, ALLOW_METHODS, ALLOW_ORIGIN
 from commands.play_text import header_of, is_preflight
@@ -40,7 +40,7 @@ def is_of_preflight(wanted):
     if number_of(wanted):
         return number_of(wanted) in PREFLIGHTED
     is_of_way = set(results_of(wanted.get("why", ""))) <= set(PREFLIGHTED)
-    return is_of_way or {one.partition(" ")[0] for one in wanted.get("sent", [])} == {"OPTIONS"}
+    return is_of_way or set(map(wanted_requests.method_of, wanted.get("sent", []))) == {"OPTIONS"}
 
 
 def lines(case, wanted, failed):
