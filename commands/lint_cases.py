@@ -185,7 +185,8 @@ CORS_ORIGINS = {
     "cors/origin-unfilled": (cors("$http_origin"), cors(PAGE)),
     "cors/origin-own": (cors(API), cors(API, asks=[cases.fetch("/x")])),
     "cors/no-origin": (cors("all"), cors("*")),
-    "cors/star-with-credentials": (cors("*", [CREDENTIALS, "true"], asks=WITH), cors(PAGE, [CREDENTIALS, "true"], asks=WITH)),
+    "cors/star-with-credentials": (cors("*", [CREDENTIALS, "true"], asks=WITH),
+                                   cors(PAGE, [CREDENTIALS, "true"], asks=WITH)),
     "cors/star-beside-credentials": (cors("*", [CREDENTIALS, "true"]), cors(PAGE, [CREDENTIALS, "true"])),
     "cors/vary-missing": (asked_by_two(), asked_by_two(["Vary", "Accept, origin"])),
 }

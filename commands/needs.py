@@ -160,8 +160,8 @@ class Needs:
         """What the answers lack, in a sentence for each of them."""
         asked = self.preflight_edits() if self.is_preflighted() else []
         rows = [("OPTIONS", asked, self.asked), (self.method, self.own_edits(), self.own)]
-        return ["the answer to %s at %s needs %s%s" % (method, self.url, ", ".join(map(lack, own)), self.where_trusted(head))
-                for method, own, head in rows if own]
+        return ["the answer to %s at %s needs %s%s" % (
+            method, self.url, ", ".join(map(lack, own)), self.where_trusted(head)) for method, own, head in rows if own]
 
     def where_trusted(self, head):
         """What is to be said of an answer that allows the origin of another page, which goes on to ask."""

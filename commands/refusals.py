@@ -126,7 +126,8 @@ def unknown_key(problem, schema):
     if meant is not None:
         return 'the key "%s" is unknown here: write "%s"' % (problem.name, meant)
     if problem.is_of("with_headers"):
-        return 'the key "%s" is unknown here: a request stands so, {"request": "PUT /x", "has": {"Cookie": true}}' % problem.name
+        return 'the key "%s" is unknown here: a request stands so, {"request": "PUT /x", "has": {"Cookie": true}}' % (
+            problem.name)
     owner = next((OWNERS[one["is"]] for one in schema.owners(problem.name) if one["is"] in OWNERS), None)
     if problem.name == "body_limit" or problem.name == "top":
         return 'the key "%s" is of format 2: write "format": 2' % problem.name

@@ -51,8 +51,8 @@ def without_user_info(url):
 
 
 def differences(url, other):
-    """What differs in two http URLs that are likely those of one resource: the same path, but for a slash at its end and
-    the case of its letters, with the same query. None where they are not."""
+    """What differs in two http URLs that are likely those of one resource: the same path, but for a slash at its end
+    and the case of its letters, with the same query. None where they are not."""
     one, two = urlsplit(url), urlsplit(other)
     path, other_path = one.path or "/", two.path or "/"
     bare, other_bare = path.rstrip("/"), other_path.rstrip("/")

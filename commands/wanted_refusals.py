@@ -67,7 +67,8 @@ def let_in(case, wanted, failed):
 
 def all_let_in(case, wanted):
     """Those of all that CORS looked at; and that there was no preflight, where it was to be refused."""
-    if is_of_preflight(wanted) and not any(is_preflight(request) for request, _ in case.exchanges):
+    number, has_preflight = number_of(wanted), any(is_preflight(request) for request, _ in case.exchanges)
+    if is_of_preflight(wanted) and not has_preflight:
         is_kept = any(event.op == "covers" and event.reply == "yes" for event in case.fetch.of("call"))
         yield "let in: no preflight was sent, since %s" % (
             "the answer to an earlier one is kept" if is_kept else "its method and its headers need none")
@@ -78,9 +79,12 @@ def all_let_in(case, wanted):
     if checked and case.command.options["mode"] == "cors":
         yield from told(case, checked)
         own = [one for one in checked if not is_preflight(one[0])]
-        yield from to_change(case, own if number_of(wanted) == "12" else checked, number_of(wanted))
+        if has_preflight or number != "7":
+            yield from to_change(case, own if number == "12" else checked, number)
     elif not is_foreign:
         yield "let in: the URL is of the page's own origin, so that there is no CORS check"
+    elif case.explanation is None:
+        yield "let in: the mode is %s, so that there is no CORS check" % case.command.options["mode"]
 
 
 def told(case, exchanges):

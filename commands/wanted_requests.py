@@ -53,13 +53,14 @@ def told(wanted):
 
 def with_headers(has, lacks):
     parts = ["%s %s" % (word, edits.listed(names)) for word, names in (("with", has), ("without", lacks)) if names]
-    return "".join(" " + part for part in [" and ".join(parts)] if part)
+    return " " + " and ".join(parts) if parts else ""
 
 
 def named(request, wanted=()):
     """A request that was sent, and of the headers that a test looks at which it has."""
     names = {name.lower(): name for one in wanted if isinstance(one, dict)
              for name in [*one.get("has", {}), *one.get("lacks", [])]}
-    has = ["%s: %s" % (name, values_of(request, name)) for name in names.values() if values_of(request, name) is not None]
-    lacks = [name for name in names.values() if values_of(request, name) is None]
+    values = {name: values_of(request, name) for name in names.values()}
+    has = ["%s: %s" % (name, value) for name, value in values.items() if value is not None]
+    lacks = [name for name, value in values.items() if value is None]
     return "%s %s%s%s" % (request.method, request.origin, request.target, with_headers(has, lacks))
