@@ -180,6 +180,7 @@ def outcome_of(test, is_net, patience, is_strict):
     try:
         text, scenario, told = asking.played(test.scenario, is_net, patience)
         passing, lacking = [], {}
+        scenario.untrusted = untrusted(test.expect, len(scenario.documents()))
         scenario.ask_besides(policy_questions.let_in(test.expect))
         kept_out = policy_questions.kept_out(test.expect, scenario.documents())
         for case in told.cases:
@@ -213,6 +214,16 @@ def fetch_of(key):
     """The number of the document and the name of the fetch or load that a key names; None of one of OTHERS."""
     found = KEY.fullmatch(key)
     return (int(found.group(1) or 0), "%s %d" % (found.group(2), int(found.group(3)))) if found else None
+
+
+def untrusted(expect, count):
+    """The documents of which a test wants each fetch and load that it names refused."""
+    wanted = {}
+    for key, value in expect.items():
+        if fetch_of(key):
+            own = value if isinstance(value, dict) else {"result": value}
+            wanted.setdefault(fetch_of(key)[0], []).append(wanted_refusals.is_meant(own))
+    return {number for number, are_meant in wanted.items() if all(are_meant) and number < count}
 
 
 def unnamed(expect, told):

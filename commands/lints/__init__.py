@@ -95,6 +95,9 @@ def without_repeats(found):
 
 def places(scenario, budget):
     asks = list(map(asks_of, scenario.documents()))
+    for number in scenario.untrusted:
+        for ask in asks[number]:
+            ask.includes = False  # its origin is not to be named
     for number, document in enumerate(scenario.documents()):
         path = ["documents", number]
         if "headers" in document:
@@ -196,8 +199,9 @@ def of_answers(told_play):
 
 
 def headers_of(case, request, head):
+    is_named = case.command.options["mode"] == "cors" and case.fetch.document.number not in case.scenario.untrusted
     ask = Ask(case.document["url"], case.kind, case.command.url, [name for name, _ in case.command.headers],
-              request.method, case.includes and case.command.options["mode"] == "cors")
+              request.method, case.includes and is_named)
     asks = ([], [ask]) if is_preflight(request) else ([ask], [])
     return Headers(ANSWER, head.headers, request.origin + request.target, *asks, is_real=True)
 
