@@ -62,6 +62,10 @@ PREFLIGHTS = {
     "a bare 404 and JSON with credentials": scenario(fetch(**JSON, **INCLUDE), [asked(404), rule()]),
     "a bare redirect to a slash": scenario(fetch(**PUT), [led("/x/", 301, path="/x"), asked(404, path="/x/"), rule()]),
     "a bare redirect to a login": scenario(fetch(**PUT), [led("https://login.test/", method="OPTIONS"), rule()]),
+    "a bare redirect to a login that any page may read": scenario(
+        fetch(**PUT), [led("/login", method="OPTIONS", path="/x"), *allow(methods("PUT"))]),
+    "a redirect to a login, with CORS headers": scenario(
+        fetch(**PUT), [led("/start?next=%2Fx", 302, OK, method="OPTIONS", path="/x"), rule(200, [OK])]),
     "a redirect without a Location": scenario(fetch(**PUT), [asked(302), rule()]),
     "a redirect with a star, and credentials": scenario(
         fetch(**PUT, **INCLUDE), [led("/x/", 308, STAR, method="OPTIONS", path="/x"), rule()]),
@@ -129,6 +133,8 @@ CHAINS = {
         **at(CDN, rule(204, [OK, methods("PUT")]))),
     "a POST that becomes a GET": scenario(
         fetch(API + "/1", method="POST", body="a"), [led(CDN + "/2", 303, OK)], **at(CDN, rule(200, [OK]))),
+    "a bare redirect to a login, of a GET": scenario(
+        fetch(**INCLUDE), [led("/signin", path="/x"), rule(200, [OK, TRUE])]),
     "a redirect to http": scenario(fetch("/go"), [led("http://api.test/x")], PAGE, **at(API, rule(200, [OK]))),
     "a redirect to a bad port": scenario(fetch("/go"), [led("https://shop.test:6000/x")], PAGE),
     "an opaque chain with an integrity text": scenario(

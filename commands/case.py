@@ -13,7 +13,8 @@ from commands.needs import (ALLOW_CREDENTIALS, ALLOW_HEADERS, ALLOW_METHODS, ALL
                             TOKEN, Needs, each_once, items_of, missed, unseen)
 from commands.play_text import header_of, is_preflight
 from commands.scenario import joined, origin_of
-from commands.urls import host_of, is_address, is_trustworthy, scheme_of, secure
+from commands.urls import (comes_from, differences, host_of, is_address, is_trustworthy, login_words, scheme_of,
+                           secure)
 
 ALGORITHMS = ("sha256", "sha384", "sha512")
 CHUNK_LINE = re.compile(rb"([0-9a-fA-F]{1,16})[^\r\n]*\r\n")
@@ -136,20 +137,42 @@ class Case:
         """The whole URL of the Location."""
         return joined(self.location, self.asked_url) if self.location else ""
 
+    @cached_property
+    def new_login_words(self):
+        """The words of a login that the URL of the Location has, and the one that was asked for has not."""
+        return login_words(self.next_url) - login_words(self.asked_url) if origin_of(self.next_url) else set()
+
     @property
     def next_differs(self):
         """How little that URL differs from the one that was asked for; an empty text where it is more."""
-        scheme, _, rest = self.next_url.partition(":")
-        own_scheme, _, own_rest = self.asked_url.partition(":")
-        is_slash = rest != own_rest and rest.rstrip("/") == own_rest.rstrip("/")
-        found = (["a slash at its end"] if is_slash else []) + (["its scheme"] if scheme != own_scheme else [])
-        is_little = self.next_url != "" and (is_slash or rest == own_rest)
-        return ", which differs by %s alone" % " and ".join(found) if is_little and found else ""
+        is_known = origin_of(self.next_url) and not self.new_login_words
+        found = differences(self.asked_url, self.next_url) if is_known else None
+        return ", which differs by %s alone" % edits.listed(found) if found else ""
+
+    @property
+    def is_next_login(self):
+        """Whether the redirect leads to a login, as far as its URL says so."""
+        is_known = origin_of(self.next_url) and not self.next_differs
+        return bool(is_known and (self.new_login_words or comes_from(self.next_url, self.asked_url)))
+
+    @property
+    def no_cookie(self):
+        """Why a preflight is led to a login."""
+        return "; a preflight never carries a cookie or Authorization" if self.is_next_login else ""
+
+    @property
+    def before_login(self):
+        return "let OPTIONS pass before the login is asked for: " if self.is_next_login else ""
 
     @property
     def look_for(self):
         """Why a server redirects, where that is not seen."""
-        return "" if self.next_differs else "; look for https, a slash at the end, or a login"
+        if self.next_differs:
+            return ""
+        if is_preflight(self.request):
+            return "" if self.is_next_login else "; look for a login, or what else redirects before OPTIONS is answered"
+        return "; it leads to a login: look whether the cookie that this waits for is sent" if self.is_next_login else (
+            "; look for a login")
 
     @property
     def url(self):
@@ -278,6 +301,13 @@ class Case:
         told = self.scenario.told_rules(self.answer.server)
         return "its rules are for " + ", ".join(told) if told else "it has no rules"
 
+    @property
+    def or_path(self):
+        """That another path would do, where the server has a rule for this method there."""
+        rules = self.scenario.servers()[self.answer.server]["rules"]
+        is_there = any(rule.get("method", self.request.method) == self.request.method for rule in rules)
+        return "; or ask for a path that has one" if is_there else ""
+
     @cached_property
     def needs(self):
         """What CORS wants of the answers at the URL of the last request."""
@@ -310,7 +340,8 @@ class Case:
     @property
     def and_others(self):
         """That an origin which is allowed now may ask on."""
-        return "; pages of the other origins go on to get theirs" if self.varies else ""
+        return "; %s" % ("pages of the other origins go on to get theirs" if self.varies
+                         else "one that trusts both sends the one that asks")
 
     @property
     def the_answer(self):

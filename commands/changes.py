@@ -91,12 +91,11 @@ def cors_or_next_url(c):
 
 
 def next_url_or_cors(c):
-    """The server answers first where the other URL is of another host, as that of a login. Where the scenario answers
-    nothing there, that URL would not do."""
+    """The page asks first for a URL that is likely the same resource's. Where the scenario answers nothing there, that
+    URL would not do."""
     if c.is_next_unanswered:
         return cors(c)
-    both = next_url(c) + cors(c)
-    return both if host_of(c.next_url) == host_of(c.asked_url) else both[::-1]
+    return next_url(c) + cors(c) if c.next_differs else cors(c) + next_url(c)
 
 
 def no_rule(c):
@@ -191,10 +190,11 @@ def follow_or_cors(c):
 
 
 def next_url(c):
-    """The page asks for the URL to which the answer redirects, where that is another one and does not lead back."""
-    url = without_user_info(c.next_url) if origin_of(c.next_url) else None
+    """The page asks for the URL to which the answer redirects, where that is another one, does not lead back and is no
+    login."""
+    url = over(without_user_info(c.next_url), c) if origin_of(c.next_url) else None
     is_other = url is not None and url not in [c.asked_url, *(hop.asked for hop in c.hops)]
-    return [ask_for(url, c)] if is_other and not c.comes_back else []
+    return [ask_for(url, c)] if is_other and not c.comes_back and not c.is_next_login else []
 
 
 def location(value):

@@ -22,8 +22,10 @@ def preflight(url, name, value, before=None):
     return {"at": "preflight", "method": "OPTIONS", "url": url, "set": name, "value": value, **replacing(before)}
 
 
-def answer(method, url, name, value, before=None):
-    return {"at": "answer", "method": method, "url": url, "set": name, "value": value, **replacing(before)}
+def answer(method, url, name, value, before=None, is_unseen=False):
+    """At an answer; one that is not seen yet may have it."""
+    unseen = {"unseen": True} if is_unseen else {}
+    return {"at": "answer", "method": method, "url": url, "set": name, "value": value, **replacing(before), **unseen}
 
 
 def replacing(before):
@@ -68,6 +70,7 @@ def body_limit(number):
 
 # ---- sentences
 
+UNSEEN = ", where it does not send that yet"  # of an answer that has not come
 LONGEST_BEFORE = 80  # characters of a value that is replaced
 STARRED = ("Access-Control-Allow-Methods", "Access-Control-Allow-Headers")
 NO_WILDCARD = " (with credentials never send `*` here)"
@@ -142,7 +145,8 @@ def of_answer(edits, before):
     status = ["answer with %d" % edit["value"] for edit in edits if edit.get("set") == "status"]
     lines = [told(edit) for edit in edits if edit.get("set", "status") not in ("status", "head")]
     head = ["send a head that is one" for edit in edits if edit.get("set") == "head"]
-    return listed([*gone, *status, *head, *(["send %s%s" % (listed(lines), where)] if lines else [])])
+    unseen = UNSEEN if any("unseen" in edit for edit in edits) else ""
+    return listed([*gone, *status, *head, *(["send %s%s%s" % (listed(lines), where, unseen)] if lines else [])])
 
 
 def answer_named(edits, before):

@@ -4,7 +4,7 @@ import os
 import re
 
 from commands import (asking, edits, findings, json_text, known_hosts, lints, notes, play_text, policy_questions, refusals,
-                      results, running, streams, verdicts)
+                      results, running, streams, verdicts, wanted_refusals, wanted_requests)
 from commands.asking import Wrong
 from commands.case import CAUSES
 from commands.explanations import TABLE, explain, lines_of
@@ -74,7 +74,9 @@ def wrongs(key, value):
     """What is wrong at a key of `expect`: a node, its place, and a sentence."""
     if key.value in policy_questions.KEYS:
         yield from of_items(value, key.value, policy_questions.problem)
-    elif key.value not in OTHERS:
+    elif key.value in OTHERS:
+        yield from of_requests(value, key.value)
+    else:
         if not KEY.fullmatch(key.value):
             yield key, key.value, 'the key "%s" names no fetch: write "fetch 0", "load 2", "document 1 fetch 0", or one of %s' % (
                 key.value, ", ".join('"%s"' % one for one in OTHERS))
@@ -89,6 +91,13 @@ def of_items(value, place, problem):
             yield node, place, sentence
 
 
+def of_requests(value, place):
+    """The requests that are none."""
+    for node in value.items if value.kind == "list" else [value]:
+        text = node.member("request") if node.kind == "object" else node
+        yield from of_items(text, place, wanted_requests.problem)
+
+
 def of_outcome(place, value):
     if value.kind == "string":
         yield from of_items(value, place, result_problem)
@@ -100,10 +109,12 @@ def of_outcome(place, value):
                               ("upgraded", upgrade_problem)):
             if value.member(name) is not None:
                 yield from of_items(value.member(name), "%s/%s" % (place, name), problem)
+        if value.member("sent") is not None:
+            yield from of_requests(value.member("sent"), place + "/sent")
 
 
 def result_problem(wanted):
-    word = results.unknown_word(negated(wanted)[1])
+    word = results.unknown_word(results.negated(wanted)[1])
     if word is None:
         return None
     meant = refusals.nearest(word, results.WORDS)
@@ -169,6 +180,7 @@ def outcome_of(test, is_net, patience, is_strict):
     try:
         text, scenario, told = asking.played(test.scenario, is_net, patience)
         passing, lacking = [], {}
+        scenario.untrusted = untrusted(test.expect, len(scenario.documents()))
         scenario.ask_besides(policy_questions.let_in(test.expect))
         kept_out = policy_questions.kept_out(test.expect, scenario.documents())
         for case in told.cases:
@@ -202,6 +214,16 @@ def fetch_of(key):
     """The number of the document and the name of the fetch or load that a key names; None of one of OTHERS."""
     found = KEY.fullmatch(key)
     return (int(found.group(1) or 0), "%s %d" % (found.group(2), int(found.group(3)))) if found else None
+
+
+def untrusted(expect, count):
+    """The documents of which a test wants each fetch and load that it names refused."""
+    wanted = {}
+    for key, value in expect.items():
+        if fetch_of(key):
+            own = value if isinstance(value, dict) else {"result": value}
+            wanted.setdefault(fetch_of(key)[0], []).append(wanted_refusals.is_meant(own))
+    return {number for number, are_meant in wanted.items() if all(are_meant) and number < count}
 
 
 def unnamed(expect, told):
@@ -262,33 +284,24 @@ def differences(expect, told, passing):
 
 
 def listed(wanted):
-    return [wanted] if isinstance(wanted, str) else wanted
-
-
-def is_request(wanted, request):
-    """Whether a request has this method, and this target or URL where one is said."""
-    method, _, where = wanted.partition(" ")
-    return method == request.method and where in ("", request.target, request.origin + request.target)
-
-
-def named(request):
-    return "%s %s%s" % (request.method, request.origin, request.target)
+    return wanted if isinstance(wanted, list) else [wanted]
 
 
 def missing(told, wanted):
     requests = told.play.requests()
     for one in wanted:
-        if not any(is_request(one, request) for request in requests):
-            sent = ", ".join(map(named, requests[:20])) or "nothing"
-            yield "sent: expected %s; sent were %s" % (one, sent)
+        if not any(wanted_requests.is_met(one, request) for request in requests):
+            sent = ", ".join(wanted_requests.named(request, [one]) for request in requests[:20]) or "nothing"
+            yield "sent: expected %s; sent were %s" % (wanted_requests.told(one), sent)
 
 
 def unwanted(told, wanted):
     for case in told.cases:
         for request, _ in case.exchanges:
             for one in wanted:
-                if is_request(one, request):
-                    yield "never sent: expected no %s; %s sent %s" % (one, case.fetch.name, named(request))
+                if wanted_requests.is_met(one, request):
+                    sent = wanted_requests.named(request)
+                    yield "never sent: expected no %s; %s sent %s" % (one, case.fetch.name, sent)
 
 
 # ---- one fetch
@@ -299,13 +312,16 @@ def of_fetch(key, wanted, cases, passing):
         has = ", ".join(name for _, name in list(cases)[:20]) or "none"
         yield "%s: there is none; the play has %s" % (key, has)
         return
-    found = list(of_case(case, {"result": wanted} if isinstance(wanted, str) else wanted))
+    wanted = {"result": wanted} if isinstance(wanted, str) else wanted
+    found = list(of_case(case, wanted))
     yield from ("%s%s: %s" % (key, verdicts.asked(case), line) for _, line in found)
     failed = {name for name, _ in found}
     if found and "sees" in wanted:
         case.asked_by_test = list(wanted["sees"])
         case.explanation = explain(case)
-    if failed:
+    if failed and wanted_refusals.is_meant(wanted):
+        yield from ("  " + line for line in wanted_refusals.lines(case, wanted, failed))
+    elif failed:
         passing.append((case.fetch.document.number, case, True, "violations" in failed))
         yield from ("  " + line for line in lines_of(case, "violations" in failed, failed != {"violations"}))
 
@@ -324,14 +340,8 @@ def of_case(case, wanted):
     yield from ((key, line) for key, lines in told.items() for line in lines)
 
 
-def negated(wanted):
-    """Whether a wanted result is any but the one that follows, and that one."""
-    word, _, rest = wanted.partition(" ")
-    return (True, rest) if word == "not" and rest else (False, wanted)
-
-
 def is_met(wanted, result):
-    is_negated, rest = negated(wanted)
+    is_negated, rest = results.negated(wanted)
     return results.is_met(rest, result) is not is_negated
 
 
@@ -373,9 +383,10 @@ def look_at_body(case, wanted):
 
 def look_at_requests(case, wanted):
     requests = [request for request, _ in case.exchanges]
-    if not (len(requests) == len(wanted) and all(map(is_request, wanted, requests))):
+    if not (len(requests) == len(wanted) and all(map(wanted_requests.is_met, wanted, requests))):
         yield "expected that it sends %s; it sent %s" % (
-            ", ".join(wanted) or "nothing", ", ".join(map(named, requests)) or "nothing")
+            ", ".join(map(wanted_requests.told, wanted)) or "nothing",
+            ", ".join(wanted_requests.named(request, wanted) for request in requests) or "nothing")
 
 
 def look_at_violations(case, wanted):

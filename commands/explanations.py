@@ -44,7 +44,7 @@ CORS_CHECK = [
     Way("cors/no-rule", "7 12", lambda c: c.has_no_rule,
         "the scenario's server {c.request.origin} has no rule for {c.request.method} {c.request.target}, so the answer is "
         "an empty 404 without CORS headers; {c.nearest_rule}", "",
-        "add a rule for this request: {change}; or ask for a path that has one", CORS, changes.no_rule),
+        "add a rule for this request: {change}{c.or_path}", CORS, changes.no_rule),
     Way("cors/tls-port-asked-in-plain", "7 12",
         lambda c: (c.is_net and not c.is_direct and c.status == 400 and c.request.origin.startswith("https:")
                    and c.allowed_origin is None),
@@ -56,8 +56,8 @@ CORS_CHECK = [
         "{c.allows}", ALLOW_ORIGIN, "{change}; or redirect within one origin", "redirects.md#origin-null", changes.origin_null),
     Way("cors/preflight-redirect", "7", lambda c: c.is_redirect,
         "the preflight is answered by a redirect ({c.status}) to {c.whereto}{c.next_differs}, and no redirect of a "
-        "preflight is followed, whatever headers it has", "Location", "{change}{c.look_for}", PREFLIGHT,
-        changes.next_url_or_cors),
+        "preflight is followed, whatever headers it has{c.no_cookie}", "Location",
+        "{c.before_login}{change}{c.look_for}", PREFLIGHT, changes.next_url_or_cors),
     Way("cors/preflight-login", "7", lambda c: c.allowed_origin is None and c.status in (401, 403, 407),
         "the answer to the preflight is {c.status}, without CORS headers: a preflight never carries a cookie or Authorization",
         ALLOW_ORIGIN, "let OPTIONS pass before the login is asked for: {change}", PREFLIGHT, changes.cors),
@@ -89,7 +89,7 @@ CORS_CHECK = [
         CORS, changes.cors),
     Way("cors/other-origin", "7 12", lambda c: c.allowed_origin != c.origin,
         "{c.the_answer} allows `{c.allowed_origin}`, and the request is of `{c.origin}`", ALLOW_ORIGIN,
-        "{change}, where the server trusts this origin{c.and_vary}{c.and_others}", CORS, changes.cors),
+        "{change}, where the server trusts this origin{c.and_others}{c.and_vary}", CORS, changes.cors),
     Way("cors/credentials-absent", "7 12", lambda c: c.allowed_credentials is None,
         "the request has credentials, and {c.the_answer} has no Access-Control-Allow-Credentials", ALLOW_CREDENTIALS,
         "{change}", CORS, changes.cors_or_without_credentials),
@@ -101,7 +101,8 @@ CORS_CHECK = [
 PREFLIGHTS = [
     Way("preflight/redirect", "8", lambda c: c.is_redirect,
         "the preflight is answered by a redirect ({c.status}) to {c.whereto}{c.next_differs}, and no redirect of a "
-        "preflight is followed", "Location", "{change}{c.look_for}", PREFLIGHT, changes.next_url_or_cors),
+        "preflight is followed{c.no_cookie}", "Location", "{c.before_login}{change}{c.look_for}", PREFLIGHT,
+        changes.next_url_or_cors),
     Way("preflight/login", "8", lambda c: c.status in (401, 403, 407),
         "the answer to the preflight is {c.status}: a preflight never carries a cookie or Authorization", "",
         "let OPTIONS pass before the login is asked for: {change}", PREFLIGHT, changes.cors),
@@ -431,7 +432,7 @@ REQUESTS = [
 SEEN = [
     Way("seen/no-rule", "s", lambda c: c.has_no_rule and c.result.type in ("basic", "loaded", "opaque"),
         "the scenario's server {c.request.origin} has no rule for {c.request.method} {c.request.target}, so the answer is "
-        "an empty 404; {c.nearest_rule}", "", "add a rule for this request: {change}; or ask for a path that has one",
+        "an empty 404; {c.nearest_rule}", "", "add a rule for this request: {change}{c.or_path}",
         "../scenario.md#servers", changes.no_rule),
     Way("seen/opaque", "s", lambda c: c.result.type == "opaque",
         "the mode is no-cors and the answer of another origin, so the script sees nothing of it: not its status {c.status}, "
@@ -482,7 +483,7 @@ TABLE = DIRECT + CORS_CHECK + PREFLIGHTS + BEFORE_SENDING + ANSWERS + LINKS + RE
 
 
 # Parts of conditions that are there for some fetches alone, and an answer that stands for that to a preflight too.
-SOMETIMES = re.compile(r"\{c\.(?:where|back_where|next_differs|but_known|why_scheme|but_gzip|but_length)\}")
+SOMETIMES = re.compile(r"\{c\.(?:where|back_where|next_differs|no_cookie|but_known|why_scheme|but_gzip|but_length)\}")
 
 
 def way_lines():
@@ -534,15 +535,19 @@ class Explanation:
         self.in_all = lines + [exposed(edit, c.own_head is None) for edit in self.exposing]
         self.in_all += c.lacking_over_https if way in MIXED_CONTENT else []
 
-    def lines(self):
-        """As it stands between the lines of a play."""
+    def reasons(self):
+        """As it stands between the lines of a play, without what to change."""
         lines = ["why: " + self.condition]
         if self.header:
             value = "is not there" if self.value is None else ": " + self.value
             value += "; is `%s` meant for it?" % self.misspelt if self.misspelt else ""
             lines.append("header: %s%s" % (self.header, value if value.startswith(":") else " " + value))
-        in_all = ["in all: " + line for line in self.in_all]
-        return lines + ["change: " + self.change, *in_all, "rule: %s (%s)" % (self.rule, self.way)]
+        return lines + ["rule: %s (%s)" % (self.rule, self.way)]
+
+    def lines(self):
+        """The same, with it."""
+        *reasons, rule = self.reasons()
+        return [*reasons, "change: " + self.change, *("in all: " + line for line in self.in_all), rule]
 
     def data(self):
         return {name: value for name, value in self.__dict__.items() if name != "first_change"}
@@ -558,8 +563,11 @@ class PolicyExplanation(Explanation):
         self.directive = c.violated.directive
         self.url = c.violated.url
 
+    def reasons(self):
+        return ["policy: " + self.condition]
+
     def lines(self):
-        return ["policy: " + self.condition, "change: " + self.change]
+        return [*self.reasons(), "change: " + self.change]
 
 
 # where no change is to be made
@@ -567,9 +575,8 @@ NOTHING = "nothing is to be changed"
 
 
 def exposed(edit, is_unknown):
-    more = ", where it does not send that yet" if is_unknown else ""
     return (f"where the script is to see these headers too, the answer to {edit['method']} needs "
-            f"{edits.told(edit)}{more}")
+            f"{edits.told(edit)}{edits.UNSEEN if is_unknown else ''}")
 
 
 def misspelt(c, wanted):

@@ -40,6 +40,9 @@ def cors(value, *headers, **more):
     return answer([ORIGIN, value], *headers, **more)
 
 
+WITH = [cases.fetch(**cases.INCLUDE)]
+
+
 def hsts(value, origin=API):
     return answer([HSTS, value], origin=origin)
 
@@ -182,7 +185,9 @@ CORS_ORIGINS = {
     "cors/origin-unfilled": (cors("$http_origin"), cors(PAGE)),
     "cors/origin-own": (cors(API), cors(API, asks=[cases.fetch("/x")])),
     "cors/no-origin": (cors("all"), cors("*")),
-    "cors/star-with-credentials": (cors("*", [CREDENTIALS, "true"]), cors(PAGE, [CREDENTIALS, "true"])),
+    "cors/star-with-credentials": (cors("*", [CREDENTIALS, "true"], asks=WITH),
+                                   cors(PAGE, [CREDENTIALS, "true"], asks=WITH)),
+    "cors/star-beside-credentials": (cors("*", [CREDENTIALS, "true"]), cors(PAGE, [CREDENTIALS, "true"])),
     "cors/vary-missing": (asked_by_two(), asked_by_two(["Vary", "Accept, origin"])),
 }
 CORS_VALUES = {

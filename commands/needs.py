@@ -11,6 +11,8 @@ ALLOW_METHODS = "Access-Control-Allow-Methods"
 ALLOW_HEADERS = "Access-Control-Allow-Headers"
 EXPOSE_HEADERS = "Access-Control-Expose-Headers"
 VARY = "Vary"
+# of an origin in the place of another page's
+WHERE_TRUSTED = ", where the server trusts this origin; one that trusts both sends the one that asks"
 KEPT_METHODS = ("GET", "HEAD")  # whose answers caches keep (RFC 9111, section 3)
 TOKEN = re.compile(r"[!#$%&'*+\-.^_`|~0-9A-Za-z]+")
 LIKE_CORS = re.compile(r"ac+es+-cont?rol-", re.I)  # a header of CORS, written right or wrong
@@ -137,7 +139,7 @@ class Needs:
                         for name, value in self.of_preflight() if is_missing(self.asked, name, value)]
 
     def own_edits(self):
-        return [edits.answer(self.method, self.url, name, value, replaced(self.own, name))
+        return [edits.answer(self.method, self.url, name, value, replaced(self.own, name), self.own is None)
                 for name, value in self.of_own() if is_missing(self.own, name, value)]
 
     def all_edits(self):
@@ -151,19 +153,26 @@ class Needs:
         """All of it in two sentences."""
         asked, own = (", ".join(told(head, *pair) for pair in pairs)
                       for head, pairs in ((self.asked, self.of_preflight()), (self.own, self.of_own())))
-        return ["the answer to OPTIONS needs a status of 200 to 299, " + asked,
-                "the answer to %s needs %s%s" % (self.method, own, self.known())]
+        return ["the answer to OPTIONS needs a status of 200 to 299, %s%s" % (asked, self.where_trusted(self.asked)),
+                "the answer to %s needs %s%s%s" % (self.method, own, self.known(), self.where_trusted(self.own))]
 
     def lacking(self):
         """What the answers lack, in a sentence for each of them."""
         asked = self.preflight_edits() if self.is_preflighted() else []
-        return ["the answer to %s at %s needs %s" % (method, self.url, ", ".join(map(lack, own)))
-                for method, own in (("OPTIONS", asked), (self.method, self.own_edits())) if own]
+        rows = [("OPTIONS", asked, self.asked), (self.method, self.own_edits(), self.own)]
+        return ["the answer to %s at %s needs %s%s" % (
+            method, self.url, ", ".join(map(lack, own)), self.where_trusted(head)) for method, own, head in rows if own]
+
+    def where_trusted(self, head):
+        """What is to be said of an answer that allows the origin of another page, which goes on to ask."""
+        allowed = head.get(ALLOW_ORIGIN) if head else None
+        is_other = allowed not in (None, self.origin) and origin_of(allowed) == allowed
+        return WHERE_TRUSTED if is_other else ""
 
     def known(self):
         """What is to be said of an answer that did not come, or that has all that it needs."""
         if self.own is None:
-            return ", where it does not send that yet"
+            return edits.UNSEEN
         return "" if self.own_edits() else ", and has that"
 
 

@@ -125,6 +125,9 @@ def unknown_key(problem, schema):
     meant = nearest(problem.name, problem.wanted)
     if meant is not None:
         return 'the key "%s" is unknown here: write "%s"' % (problem.name, meant)
+    if problem.is_of("with_headers"):
+        return 'the key "%s" is unknown here: a request stands so, {"request": "PUT /x", "has": {"Cookie": true}}' % (
+            problem.name)
     owner = next((OWNERS[one["is"]] for one in schema.owners(problem.name) if one["is"] in OWNERS), None)
     if problem.name == "body_limit" or problem.name == "top":
         return 'the key "%s" is of format 2: write "format": 2' % problem.name
@@ -229,6 +232,10 @@ def other_length(problem, schema):
 
 def other_form(problem, schema):
     keys = [key.value for key, _ in problem.node.members]
+    if problem.is_of("header_value"):
+        return "this is no value of a header: write it as a text, or true where any will do"
+    if problem.is_of("request") or problem.is_of("sent"):
+        return 'this is no request: write "PUT /x", or {"request": "PUT /x", "has": {"Cookie": true}}'
     if problem.is_of("outcome"):
         return 'this is none of the forms that may stand here: write a result in words, or {"result": "read"}'
     commands = [key for key in keys if key in ("fetch", "load", "wait", "repeat", "if")]

@@ -11,6 +11,12 @@ TYPES = ["basic", "cors", "opaque", "opaqueredirect", "loaded", "failed", "type-
 WORDS = ["read", "refused", "no-verdict"] + TYPES + NETWORK_ERRORS + FAULTS
 
 
+def negated(wanted):
+    """Whether a wanted result is any but the one that follows, and that one."""
+    word, _, rest = wanted.partition(" ")
+    return (True, rest) if word == "not" and rest else (False, wanted)
+
+
 def is_met(wanted, result):
     """Whether a result is what a test wants of it."""
     if wanted == "read":

@@ -138,6 +138,7 @@ class Scenario:
         self.told_by = {}
         self.mended_by = {}
         self.more_asks = {}  # as ask_besides has it
+        self.untrusted = set()  # the numbers of documents of which a test wants all refused
         self.budget = None  # of what is mended
         self.answers = {}  # of its rules, by the numbers of the server and the rule
 

@@ -159,15 +159,17 @@ class Check:
         if not forms or sum(self.fits(node, one) for one in forms) == 1:
             return
         meant = [one for one in forms if self.is_meant(node, one)]
-        meant = meant or [one for one in forms if self.is_object(node, one)]
+        meant = meant or [one for one in forms if self.is_like(node, one)]
         if len(meant) == 1:
             yield from self.problems(node, meant[0], path)
         else:
             yield Problem("form", node, path, schemas, wanted=forms)
 
-    def is_object(self, node, form):
-        """Whether a node is an object, as an alternative is: then its keys are wrong, and not that it is one."""
-        return node.kind == "object" and any(one.get("type") == "object" for one in self.schema.linked(form))
+    def is_like(self, node, form):
+        """Whether a node is an object or a list, as an alternative is: then what is in it is wrong, and not that it is
+        one."""
+        kind = {"object": "object", "list": "array"}.get(node.kind)
+        return kind is not None and any(one.get("type") == kind for one in self.schema.linked(form))
 
     def is_meant(self, node, form):
         """Whether a node begins as an alternative does: by a key that it must have, or by its first item."""

@@ -1,7 +1,11 @@
 """What the rules of secure contexts ask of a URL (docs/rules/origins.md, docs/rules/mixed-content.md)."""
 import functools
 import ipaddress
-from urllib.parse import urlsplit
+import re
+from urllib.parse import parse_qsl, urljoin, urlsplit
+
+# Words of a host or a path that a login has.
+LOGIN = re.compile(r"(?<![a-z])(?:log-?[io]n|sign-?in|auth(?:orize|enticate)?|sso|oauth|accounts?|sessions?)(?![a-z])")
 
 
 def scheme_of(url):
@@ -46,3 +50,35 @@ def without_user_info(url):
     """The URL without a user name and a password."""
     parts = urlsplit(url)
     return parts._replace(netloc=parts.netloc.rpartition("@")[2]).geturl()
+
+
+def differences(url, other):
+    """What differs in two http URLs that are likely those of one resource: the same path, but for a slash at its end
+    and the case of its letters, with the same query. None where they are not."""
+    one, two = urlsplit(url), urlsplit(other)
+    path, other_path = one.path or "/", two.path or "/"
+    bare, other_bare = path.rstrip("/"), other_path.rstrip("/")
+    if (bare.lower(), one.query) != (other_bare.lower(), two.query):
+        return None
+    rows = [("a slash at its end", path.endswith("/") != other_path.endswith("/")),
+            ("the case of its path", bare != other_bare), ("its scheme", one.scheme != two.scheme),
+            ("its host", one.hostname != two.hostname), ("its port", port_of(one) != port_of(two))]
+    return [name for name, is_other in rows if is_other]
+
+
+def port_of(parts):
+    """The port of a URL; None where it is the one that its scheme has."""
+    return None if parts.port == {"http": 80, "https": 443}.get(parts.scheme) else parts.port
+
+
+def login_words(url):
+    """The words of a login that its host and its path have."""
+    parts = urlsplit(url)
+    text = re.sub("([a-z])([A-Z])", r"\1-\2", parts.netloc.lower() + parts.path).replace("_", "-")
+    return set(LOGIN.findall(text.lower()))
+
+
+def comes_from(url, other):
+    """Whether a URL has another one in its query, as that to which it is to lead back."""
+    values = [value for _, value in parse_qsl(urlsplit(url).query) if re.match("/|https?:", value)]
+    return any(urljoin(other, value).partition("?")[0] == other.partition("?")[0] for value in values)

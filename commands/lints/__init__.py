@@ -95,6 +95,9 @@ def without_repeats(found):
 
 def places(scenario, budget):
     asks = list(map(asks_of, scenario.documents()))
+    for number in scenario.untrusted:
+        for ask in asks[number]:
+            ask.includes = False  # its origin is not to be named
     for number, document in enumerate(scenario.documents()):
         path = ["documents", number]
         if "headers" in document:
@@ -107,8 +110,14 @@ def places(scenario, budget):
 def asks_of(document):
     """What a document's script asks for, as far as its text says it: without what templates put in."""
     return [Ask(document["url"], given["kind"] if kind == "load" else "fetch", given["url"],
-                [name for name, _ in given.get("headers", [])], given.get("method"))
+                [name for name, _ in given.get("headers", [])], given.get("method"), includes(given))
             for _, kind, given in commands(document["script"]) if "${" not in given["url"]]
+
+
+def includes(given):
+    """Whether the options of a fetch or a load ask in mode cors, with credentials."""
+    is_of_cors = given.get("mode", "cors") == "cors"
+    return given.get("crossorigin") == "use-credentials" or given.get("credentials") == "include" and is_of_cors
 
 
 def asks_of_policies(scenario, number):
@@ -190,8 +199,9 @@ def of_answers(told_play):
 
 
 def headers_of(case, request, head):
+    is_named = case.command.options["mode"] == "cors" and case.fetch.document.number not in case.scenario.untrusted
     ask = Ask(case.document["url"], case.kind, case.command.url, [name for name, _ in case.command.headers],
-              request.method)
+              request.method, case.includes and is_named)
     asks = ([], [ask]) if is_preflight(request) else ([ask], [])
     return Headers(ANSWER, head.headers, request.origin + request.target, *asks, is_real=True)
 

@@ -81,7 +81,15 @@ def no_origin(field):
 
 
 def star_with_credentials(field):
-    return field.value == "*" and field.headers.has_credentials
+    """The origins of the pages that ask with credentials."""
+    asks = field.headers.asks + field.headers.preflights
+    origins = list(dict.fromkeys("`%s`" % ask.page_origin for ask in asks if ask.includes))
+    told = origins[0] if len(origins) == 1 else " or ".join(origins) + ", the one that asks,"
+    return bool(origins) and field.value == "*" and field.headers.has_credentials and told
+
+
+def star_beside_credentials(field):
+    return field.value == "*" and field.headers.has_credentials and not star_with_credentials(field)
 
 
 def vary_missing(field):
@@ -121,6 +129,9 @@ ALLOW_ORIGIN = [
     OfAnswer("cors/no-origin", ORIGIN, no_origin, "`{it.value}` is no origin",
              "write scheme, `://` and host, such as `https://app.example`", is_last=True),
     OfAnswer("cors/star-with-credentials", ORIGIN, star_with_credentials,
+             "`*` lets no request with credentials read, and a page asks with them",
+             "send {meant} in its place, where the server trusts it"),
+    OfAnswer("cors/star-beside-credentials", ORIGIN, star_beside_credentials,
              "`*` lets no request with credentials read, and Access-Control-Allow-Credentials stands beside it",
              "send the origin; or leave Access-Control-Allow-Credentials out"),
     OfAnswer("cors/vary-missing", ORIGIN, vary_missing,

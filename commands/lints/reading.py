@@ -19,9 +19,10 @@ TOPICS = {"csp": "^.?c(?!ross).*(?:sec|pol)|^x-(?:content-s|webkit)", "csp_words
 
 
 class Ask:
-    """A request that a page makes: what kind it is, its URL, the names of its script's headers, and its method."""
+    """A request that a page makes: what kind it is, its URL, the names of its script's headers, its method, and whether
+    it is one of CORS whose credentials go along."""
 
-    def __init__(self, page, kind, url, names=(), method=None):
+    def __init__(self, page, kind, url, names=(), method=None, includes=False):
         self.page = page
         self.kind = kind
         self.url = joined(url, page)
@@ -30,6 +31,7 @@ class Ask:
         self.origin = origin_of(self.url)
         self.target = target_of(self.url)
         self.method = normal(method or "GET")
+        self.includes = includes and self.is_foreign
 
     @property
     def is_foreign(self):

@@ -1,0 +1,119 @@
+"""What bin/expect says of a fetch that a test wants refused, and that came to something else: why it was refused
+otherwise, or which headers let it in; and no change that would let it through."""
+from commands import edits, policy_questions, results, wanted_requests
+from commands.explanations import PREFLIGHTED, TABLE
+from commands.needs import ALLOW_CREDENTIALS, ALLOW_HEADERS, ALLOW_METHODS, ALLOW_ORIGIN
+from commands.play_text import header_of, is_preflight
+
+POLICIES = ("4", "19")
+GOES_ON = "; many servers send back whatever Origin they get"
+
+
+def is_meant(wanted):
+    """Whether what a test wants of a fetch is a refusal: by its result, or by its way where it names none."""
+    if "result" not in wanted:
+        return "s" not in results_of(wanted.get("why", ""))
+    is_negated, rest = results.negated(wanted["result"])
+    if is_negated:
+        return rest in ("read", "cors", "basic", "loaded")
+    return rest == "refused" or rest.startswith(("failed", "type-error")) or number_of(wanted) != ""
+
+
+def results_of(name):
+    """The numbers of the results of a way; that of what is seen where there is no such way."""
+    return next((way.results.split() for way in TABLE if way.name == name), ["s"])
+
+
+def number_of(wanted):
+    """The number of the network error that a test names, and of a fault an f; an empty text where it names none."""
+    is_negated, rest = results.negated(wanted.get("result", ""))
+    words = [] if is_negated else rest.split()
+    if words[:1] == ["type-error"] or set(words) & set(results.FAULTS):
+        return "f"
+    named = [str(results.NETWORK_ERRORS.index(one) + 1) for one in words if one in results.NETWORK_ERRORS]
+    numbers = [one for one in words if one.isdigit() and len(one) < 3]
+    return [*named, *numbers, ""][0]
+
+
+def is_of_preflight(wanted):
+    """Whether it wants the preflight refused: by the result or the way, or since nothing else is to be sent."""
+    if number_of(wanted):
+        return number_of(wanted) in PREFLIGHTED
+    is_of_way = set(results_of(wanted.get("why", ""))) <= set(PREFLIGHTED)
+    return is_of_way or set(map(wanted_requests.method_of, wanted.get("sent", []))) == {"OPTIONS"}
+
+
+def lines(case, wanted, failed):
+    """Of a fetch of which something failed that a test wants."""
+    own = case.explanation.reasons() if case.explanation else []
+    for policy in case.policies_told:
+        if policy.enforced or "violations" in failed:
+            own += policy.reasons() if policy.enforced else policy.lines()
+    return own + list(let_in(case, wanted, failed))
+
+
+def let_in(case, wanted, failed):
+    """Which answers let it pass, and by which headers: of one that was refused later the answer to its preflight."""
+    number, is_refused = number_of(wanted), case.result.is_refused()
+    if number in POLICIES and "result" in failed:
+        yield from (line.strip() for line in policy_questions.let_through(case))
+    elif not is_refused and (not number or number == "12" or number in PREFLIGHTED):
+        yield from all_let_in(case, wanted)
+    elif is_refused and not case.result.is_fault and case.result.number >= 12 and is_of_preflight(wanted):
+        asked = [one for one in case.exchanges[:-1] if is_preflight(one[0]) and case.whole(one[0]) == case.asked_url]
+        yield from told(case, asked[-1:])
+        yield from to_change(case, asked[-1:], number)
+
+
+def all_let_in(case, wanted):
+    """Those of all that CORS looked at; and that there was no preflight, where it was to be refused."""
+    number, has_preflight = number_of(wanted), any(is_preflight(request) for request, _ in case.exchanges)
+    if is_of_preflight(wanted) and not has_preflight:
+        is_kept = any(event.op == "covers" and event.reply == "yes" for event in case.fetch.of("call"))
+        yield "let in: no preflight was sent, since %s" % (
+            "the answer to an earlier one is kept" if is_kept else "its method and its headers need none")
+    checked, is_foreign = [], False
+    for request, answer in case.exchanges:
+        is_foreign |= request.origin != case.page_origin
+        checked += [(request, answer)] if is_foreign and answer and answer.head else []
+    if checked and case.command.options["mode"] == "cors":
+        yield from told(case, checked)
+        own = [one for one in checked if not is_preflight(one[0])]
+        if has_preflight or number != "7":
+            yield from to_change(case, own if number == "12" else checked, number)
+    elif not is_foreign:
+        yield "let in: the URL is of the page's own origin, so that there is no CORS check"
+    elif case.explanation is None:
+        yield "let in: the mode is %s, so that there is no CORS check" % case.command.options["mode"]
+
+
+def told(case, exchanges):
+    """The headers that let it pass, of each of these answers."""
+    are_many = len({case.whole(request) for request, _ in case.exchanges}) > 1
+    for request, answer in exchanges:
+        where = " at " + case.whole(request) if are_many else ""
+        values = [(name, answer.head.get(name)) for name in deciding(case, request)]
+        lines_told = [edits.line_of({"set": name, "value": value}) for name, value in values if value is not None]
+        yield "let in: the answer to %s%s has %s" % (request.method, where, edits.listed(lines_told))
+
+
+def to_change(case, exchanges, number):
+    """What keeps the page out, where a CORS check is to do that."""
+    if exchanges and number in ("", "7", "12"):
+        request, answer = exchanges[-1]
+        origin = header_of(request, "Origin") or case.page_origin
+        methods = dict.fromkeys(one.method for one, _ in exchanges)
+        is_reflected = case.is_net and answer.head.get(ALLOW_ORIGIN) == origin
+        yield "change: where %s asks, leave %s out of %s, or send another origin's%s" % (
+            origin, ALLOW_ORIGIN, edits.listed("the answer to " + one for one in methods),
+            GOES_ON if is_reflected else "")
+
+
+def deciding(case, request):
+    """The headers of its answer that CORS looks at."""
+    names = [ALLOW_ORIGIN, *([ALLOW_CREDENTIALS] if case.includes else [])]
+    if is_preflight(request):
+        is_simple = header_of(request, "Access-Control-Request-Method") in ("GET", "HEAD", "POST")
+        names += [] if is_simple else [ALLOW_METHODS]
+        names += [ALLOW_HEADERS] if header_of(request, "Access-Control-Request-Headers") else []
+    return names

@@ -1,0 +1,66 @@
+"""The requests that a test of bin/expect names: a method, alone or with a target or a URL, as "PUT /x"; or an object,
+which says of the headers too what the request has and lacks."""
+import re
+
+from commands import edits
+from commands.needs import TOKEN
+
+FORM = re.compile(r"%s(?: (?:/|https?://)\S*)?" % TOKEN.pattern)
+EXAMPLE = '{"request": "PUT /x", "has": {"Cookie": true}}'
+
+
+def problem(text):
+    """What is wrong with a request's text, in a sentence; None where nothing is."""
+    if FORM.fullmatch(text):
+        return None
+    return 'a request is a method and a target, such as "PUT /x"; with headers it is an object, such as ' + EXAMPLE
+
+
+def text_of(wanted):
+    return wanted["request"] if isinstance(wanted, dict) else wanted
+
+
+def method_of(wanted):
+    return text_of(wanted).partition(" ")[0]
+
+
+def values_of(request, name):
+    """All values that a request has of a header, joined; None where it has none."""
+    values = [value for own, value in request.headers if own.lower() == name.lower()]
+    return ", ".join(values).encode("latin-1", "replace").decode("utf-8", "replace") if values else None
+
+
+def is_met(wanted, request):
+    """Whether a request is one that a test names."""
+    method, _, where = text_of(wanted).partition(" ")
+    is_there = method == request.method and where in ("", request.target, request.origin + request.target)
+    return is_there and (isinstance(wanted, str) or has_headers(wanted, request))
+
+
+def has_headers(wanted, request):
+    has = all(values_of(request, name) is not None and value in (True, values_of(request, name))
+              for name, value in wanted.get("has", {}).items())
+    return has and all(values_of(request, name) is None for name in wanted.get("lacks", []))
+
+
+def told(wanted):
+    """What a test names, in words."""
+    if isinstance(wanted, str):
+        return wanted
+    has = [name if value is True else "%s: %s" % (name, value) for name, value in wanted.get("has", {}).items()]
+    return text_of(wanted) + with_headers(has, wanted.get("lacks", []))
+
+
+def with_headers(has, lacks):
+    parts = ["%s %s" % (word, edits.listed(names)) for word, names in (("with", has), ("without", lacks)) if names]
+    return " " + " and ".join(parts) if parts else ""
+
+
+def named(request, wanted=()):
+    """A request that was sent, and of the headers that a test looks at which it has."""
+    names = {name.lower(): name for one in wanted if isinstance(one, dict)
+             for name in [*one.get("has", {}), *one.get("lacks", [])]}
+    values = {name: values_of(request, name) for name in names.values()}
+    has = ["%s: %s" % (name, value) for name, value in values.items() if value is not None]
+    lacks = [name for name, value in values.items() if value is None]
+    return "%s %s%s%s" % (request.method, request.origin, request.target, with_headers(has, lacks))
