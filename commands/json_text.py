@@ -60,6 +60,15 @@ class Node:
             node = node.items[word] if isinstance(word, int) else node.member(word)
         return node
 
+    def place_of(self, index):
+        """The place in the whole text of a character of a string's value."""
+        place = self.start + 1
+        for sign in self.value[:index]:
+            found = ESCAPE.match(self.text, place - self.start)
+            is_pair = found is not None and ord(sign) > 0xffff  # written as two escapes
+            place += len(found.group()) * (2 if is_pair else 1) if found else 1
+        return place
+
     def plain(self):
         """The value as Python has it."""
         if self.kind == "object":

@@ -113,6 +113,8 @@ CSP_DIRECTIVES = {
 }
 CSP_WORDS = {
     "csp/semicolon-missing": (csp_of("img-src 'self' font-src 'self'"), csp_of("img-src 'self' font-src.test")),
+    "csp/name-behind-source": (csp_of("default-src 'none'script-src 'self'"),
+                               csp_of("img-src https://a.test/img-src img-src.test")),
     "csp/sandbox-word": (csp_of("sandbox allow-script"), csp_of("sandbox allow-scripts")),
     "csp/trusted-sink": (csp_of("require-trusted-types-for script"), csp_of("require-trusted-types-for 'script'")),
     "csp/trusted-word": (csp_of("trusted-types none"), csp_of("trusted-types one two 'allow-duplicates'")),
@@ -304,8 +306,26 @@ TOLD_ONCE = [
     (asking("connect-src https://api.test/v1 https://api.test/v1/", API + "/v1/cart"), None),
 ]
 
+# Words that end in the name of a directive: where it begins another, what stands before it; else an empty text.
+BEFORE_NAME = {
+    "'none'script-src": "'none'", "'self'STYLE-SRC-ELEM": "'self'", "'nonce-n1'style-src": "'nonce-n1'",
+    "data:font-src": "data:", "https:img-src": "https:", "*img-src": "*", "'self'upgrade-insecure-requests": "'self'",
+    "https://pay.examplestyle-src": "https://pay.example", "fonts.examplefenced-frame-src": "fonts.example",
+    "*.a.testimg-src": "*.a.test", "localhost:3000connect-src": "localhost:3000", "http://localhostimg-src":
+    "http://localhost", "a.test:*report-to": "a.test:*", "https://a.test/lib.jsstyle-src": "https://a.test/lib.js",
+    "upgrade-insecure-requestsimg-src": "upgrade-insecure-requests", "allow-scriptsimg-src": "allow-scripts",
+    "http://10.0.0.1img-src": "http://10.0.0.1", "img-src": "", "https://x.example/img-src": "", "img-src.example": "",
+    "https://cdn.img-src": "", "https://x.example/my-img-src": "", "https://x.example/libimg-src": "",
+    "https://x.example/v1.2/img-src": "", "my-img-src": "", "https://cdnimg-src": "", "https://a.my-media-src": "",
+    "https://a.test/img-src/": "", "a.b_img-src": "", "https://x.example/a?img-src": "", "'img-src'": "",
+}
+
 # Policies with several slips, and what is meant by them.
 MENDED = {
+    "default-src 'none'script-src 'self' https://a.test https://b.teststyle-src 'self'; img-src data:font-src 'self'":
+        "default-src 'none'; script-src 'self' https://a.test https://b.test; style-src 'self'; img-src data:; "
+        "font-src 'self'",
+    "upgrade-insecure-requestsimg-src self": "upgrade-insecure-requests; img-src 'self'",
     "default-src self; connect-src 'self' api.test report-uri /csp": "default-src 'self'; connect-src 'self' api.test; "
                                                                      "report-uri /csp",
     "defualt-src none; script-src 'slef' nonce-abc; img-src https://a.test 'none'":

@@ -17,7 +17,11 @@ def is_proof_text(text):
 # ---- words of any directive
 
 def missing_semicolon(word):
-    return word.is_directive
+    return word.is_directive and not word.source
+
+
+def name_behind_source(word):
+    return word.is_directive and word.source or None
 
 
 def unknown_sandbox(word):
@@ -67,6 +71,9 @@ WORDS = [
     Lint("csp/semicolon-missing", "a word", missing_semicolon,
          "`{it.text}` stands as a word of `{it.directive.name}`, and is the name of a directive",
          "put a semicolon before `{it.text}`"),
+    Lint("csp/name-behind-source", "a word", name_behind_source,
+         "in `{it.written}` the name of a directive stands right behind `{meant}`",
+         "put a semicolon behind `{meant}`"),
     Lint("csp/sandbox-word", "a word", unknown_sandbox, "`{it.text}` is no word of `sandbox`", "{meant}"),
     Lint("csp/trusted-sink", "a word", unknown_sink, "`{it.text}` is no word of `require-trusted-types-for`",
          "write `'script'`"),

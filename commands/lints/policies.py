@@ -1,6 +1,7 @@
 """Policies as lints look at them: with their directives and words."""
 import functools
 import re
+from collections import namedtuple
 
 from commands import csp
 from commands.lints import grammar
@@ -14,14 +15,19 @@ EFFECTIVE = {"fetch": "connect-src", "image": "img-src", "audio": "media-src", "
 QUOTED = re.compile("[\"'`\u201c\u2018]\\s*([A-Za-z-]+)")
 PASTED = re.compile(r"(?:x-)?content-security-policy(?:-report-only)?\s*:|<meta\b", re.I)
 
+# A word, its place in the header's value, and what stands right before it, without a blank; or an empty text.
+Piece = namedtuple("Piece", "text start source")
+
 
 class Policy:
-    """One policy of a header. `effective` has the first directive of each name, as docs/rules/csp.md says."""
+    """One policy of a header, whose text begins at `start` in that. `effective` has the first directive of each name,
+    as docs/rules/csp.md says."""
 
     kinds, topics = ("a policy",), ("csp",)
 
-    def __init__(self, field, number, text):
+    def __init__(self, field, number, text, start=0):
         self.headers = field.headers
+        self.start = start + len(text) - len(text.lstrip())
         self.own_text = text.strip()
         self.where, self.at, self.header = field.where, field.at, field.header
         self.number = number
@@ -32,8 +38,10 @@ class Policy:
         self.is_pasted = self.is_quoted or PASTED.match(field.value) is not None
         self.directives = []
         self.effective = {}
-        for part in filter(str.split, text.split(";")):
-            self.add(Directive(self, part, not self.directives))
+        for part in text.split(";"):
+            if part.split():
+                self.add(Directive(self, part, not self.directives, start))
+            start += len(part) + 1
 
     def add(self, directive):
         directive.is_again = directive.name in self.effective
@@ -55,11 +63,13 @@ class Policy:
 class Directive:
     kinds, topics = ("a directive",), ("csp",)
 
-    def __init__(self, policy, text, is_first):
+    def __init__(self, policy, text, is_first, start):
         self.policy = policy
         self.where, self.at, self.header = policy.where, policy.at, policy.header
         self.text = text.strip()
-        self.written, *self.rest = text.split()
+        first, *self.pieces = pieces(text, start)
+        self.written, self.start = first.text, first.start
+        self.rest = [piece.text for piece in self.pieces]
         self.name = self.written.lower()
         self.is_known = self.name in grammar.DIRECTIVES
         self.has_sources = self.name in grammar.SOURCES
@@ -67,14 +77,13 @@ class Directive:
         self.follows_comma = is_first and policy.number > 0
         self.is_again = False
 
-
     @functools.cached_property
     def words(self):
         """Up to one that is the name of another directive, behind a semicolon that is missing."""
         words, seen = [], set()
-        for text in self.rest:
-            words.append(Word(self, text, text in seen))
-            seen.add(text)
+        for piece in self.pieces:
+            words.append(Word(self, piece, piece.text in seen))
+            seen.add(piece.text)
             if words[-1].is_directive:
                 break
         return words
@@ -103,17 +112,34 @@ class Directive:
         return any(word.is_proof for word in self.words)
 
 
+def pieces(text, start=0):
+    """The words of a directive's text, with their places. One that goes on with the name of another directive is two."""
+    is_free = takes_names((text.split() or [""])[0].lower())
+    for found in re.finditer(r"\S+", text):
+        at, source = start + found.start(), "" if is_free else grammar.before_name(found.group())
+        if source:
+            yield Piece(source, at, "")
+        yield Piece(found.group()[len(source):], at + len(source), source)
+
+
+def takes_names(name):
+    """Whether the words of the directive of this name are names of all kinds."""
+    return name in ("report-to", "trusted-types")
+
+
 def is_swallowed(text, name):
     """Whether a word of the directive of this name is another directive's, whose semicolon is missing."""
-    return "-" in text and text.lower() in grammar.DIRECTIVES and name not in ("report-to", "trusted-types")
+    return "-" in text and text.lower() in grammar.DIRECTIVES and not takes_names(name)
 
 
 class Word:
-    """A word of a directive; `inner` is what its quotes hold, or None."""
+    """A word of a directive; `inner` is what its quotes hold, or None, and `source` what stands right before it, without
+    a blank."""
 
     topics = ("csp", "csp_words")
 
-    def __init__(self, directive, text, is_again):
+    def __init__(self, directive, piece, is_again):
+        text, self.start, self.source = piece
         self.directive = directive
         self.policy = directive.policy
         self.where, self.at, self.header = directive.where, directive.at, directive.header
@@ -124,6 +150,11 @@ class Word:
         self.kinds = ("a word", "a source") if directive.has_sources else ("a word",)
         self.host = grammar.HOST.fullmatch(text)
         self.is_directive = is_swallowed(text, directive.name)
+
+    @property
+    def written(self):
+        """With what stands right before it."""
+        return self.source + self.text
 
     @property
     def is_proof(self):

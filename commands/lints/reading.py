@@ -149,6 +149,7 @@ class Field:
         self.header = name
         self.name = name.lower()
         self.value = value.strip(" \t")
+        self.first = len(value) - len(value.lstrip(" \t"))  # where it begins
         self.topics = topics_of(self.name)
         self.is_policy = self.name in (POLICY, REPORT_ONLY)
         self.kinds = ("a header's name", self.name, "a policy's header")[:3 if self.is_policy else 2]
@@ -170,8 +171,11 @@ class Field:
     def read_policies(self):
         """Those that have a directive; the empty one where none has."""
         from commands.lints.policies import Policy  # where there is one
-        parts = [part for part in self.value.split(",") if part.strip(" \t;")] or [""]
-        return [Policy(self, number, part) for number, part in enumerate(parts)]
+        parts, start = [], self.first
+        for part in self.value.split(","):
+            parts += [(part, start)] if part.strip(" \t;") else []
+            start += len(part) + 1
+        return [Policy(self, number, *part) for number, part in enumerate(parts or [("", self.first)])]
 
 
 class Options:
