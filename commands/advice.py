@@ -124,8 +124,8 @@ def at_page(data, case, edit):
     if "policy" not in edit:
         document[edit["set"]] = edit["value"]
         return
-    change_policies(document, lambda number, text: csp.with_directive(text, edit["set"], edit["value"])
-                    if number == edit["policy"] else text)
+    change_policies(document, lambda number, text: csp.with_directive(
+        text, edit["set"], edit["value"], edit.get("replaces")) if number == edit["policy"] else text)
 
 
 def change_policies(document, change):

@@ -359,6 +359,36 @@ WHOLE = {
 }
 
 
+# A policy with a slip, what a page loads, the policy with the first change that is named, and a part of its sentence.
+SLIPS = [
+    ("default-src 'none'; connect-scr 'self' https://api.test", fetch(),
+     "default-src 'none'; connect-src 'self' https://api.test",
+     "let policy 0 say `connect-src 'self' https://api.test` in place of `connect-scr 'self' https://api.test`"),
+    ("default-src 'none'; connect-src: 'self'", fetch(), "default-src 'none'; connect-src 'self' https://api.test",
+     "in place of `connect-src: 'self'`"),
+    ("default-src 'none'; font-src \u2018self\u2019", load("font", "/f"), "default-src 'none'; font-src 'self'",
+     "in place of `font-src \u2018self\u2019`"),
+    ("default-src 'none'; style-src 'self' connect-src 'self' img-src 'self'", fetch(),
+     "default-src 'none'; style-src 'self'; connect-src 'self' https://api.test; img-src 'self'",
+     "let policy 0 say `style-src 'self'; connect-src 'self' https://api.test; img-src 'self'`, with the semicolon that is "
+     "missing before `connect-src` and `img-src`"),
+    ("img-src 'self' upgrade-insecure-requests", load("image", IMAGES + "/i.png"),
+     "img-src 'self' https://img.test; upgrade-insecure-requests",
+     "missing before `upgrade-insecure-requests`"),
+    ("default-src 'self' img-src 'self'", load("font", IMAGES + "/f"),
+     "default-src 'self'; img-src 'self'; font-src 'self' https://img.test",
+     "let policy 0 say `default-src 'self'; img-src 'self'; font-src 'self' https://img.test`, with the semicolon that is "
+     "missing before `img-src`"),
+    ("default-src 'none'; style-scr 'self' connect-src https://api.test", fetch(),
+     "default-src 'none'; style-src 'self'; connect-src https://api.test",
+     "in place of `style-scr 'self' connect-src https://api.test`, with the semicolon"),
+    ("font-src https://img.testconnect-src https://api.test; default-src 'self'", fetch(),
+     "font-src https://img.test; default-src 'self'; connect-src https://api.test",
+     "let policy 0 say `font-src https://img.test; connect-src https://api.test`, with the semicolon that is missing "
+     "before `connect-src`"),
+]
+
+
 def scripted():
     """Each by its name."""
     for group in (PREFLIGHTS, CORS, CHAINS, POLICIES, HOSTS, OTHERS):

@@ -407,6 +407,19 @@ class Case:
         name, words = csp.deciding(self.mended[self.violated.policy], self.violated.directive)
         return (name, words) if name in self.mended[self.violated.policy] else self.directive
 
+    def standing(self, name):
+        """How the violated policy has a directive that is mended: the names of those in whose text it stands, since
+        semicolons are missing, and that text, where it is no directive of this name as it is written; or None."""
+        own = self.policies[self.violated.policy][1]
+        if name in own and not csp.may_swallow(own[name]):
+            return [name], None
+        from commands.lints import mending  # where there is a slip
+        return mending.standing(self.policy_text, name, name in own)
+
+    @property
+    def policy_text(self):
+        return csp.texts(self.document.get("headers", []))[self.violated.policy][1]
+
     def under(self, policies):
         """The same case, where the page has these policies: for each its disposition, and its directives."""
         case = copy.copy(self)

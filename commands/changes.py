@@ -220,15 +220,20 @@ def secure_page(c):
 
 def policy_edits(c, words):
     """The directive of the violated policy, or where words are added the one that is to stand beside default-src, with
-    these words that mean something in it; and the directives that stand among them, since a semicolon is missing."""
-    number, own = c.violated.policy, c.policies[c.violated.policy][1]
+    these words that mean something in it; and where it stands among the words of another, or others among its own, since
+    a semicolon is missing, all of these."""
+    number = c.violated.policy
     decider, there = c.words_to_change
     name = decider if words == there else csp.written_for(decider, c.violated.directive)
-    swallowed = [word.lower() for word in own.get(name, [])]
-    split = [(one, more) for one, more in c.mended[number].items() if one in swallowed and one not in own]
-    kept = words if name == decider else csp.meaningful(words, name)
-    return [edits.policy(number, name, list(dict.fromkeys(kept)), name != decider),
-            *(edits.policy(number, one, more) for one, more in split)]
+    kept = list(dict.fromkeys(words if name == decider else csp.meaningful(words, name)))
+    values = {**c.mended[number], **({decider: kept} if name == decider else {})}
+    names, before = c.standing(decider)
+    names = [one for one in names if one in values]
+    if len(names) < 2:
+        return [edits.policy(number, name, kept, name != decider, before if name == decider else None)]
+    found = [edits.policy(number, one, values[one], False, None if at else before, names[at - 1] if at else None)
+             for at, one in enumerate(names)]
+    return found + ([] if name == decider else [edits.policy(number, name, kept, True)])
 
 
 def source_of(c):

@@ -10,7 +10,7 @@ from commands import csp
 from commands.lints import grammar, lints_of
 from commands.lints.csp import comma, is_web_host, misspelt_header, obsolete_header, widened
 from commands.lints.entry import DOCUMENT, nearest
-from commands.lints.policies import PASTED, Policy, is_swallowed
+from commands.lints.policies import PASTED, Policy, is_swallowed, pieces
 from commands.lints.reading import Field, Headers, topics_of
 
 LONGEST = 8192  # characters: a header that is longer stays as it is
@@ -287,6 +287,26 @@ def split(words):
             parts.append([])
         parts[-1].append(word)
     return parts
+
+
+def standing(text, name, is_known):
+    """How a policy's text has a directive: the names of all that stand in one part of it, since semicolons are missing,
+    and that part, where it begins with no directive as it is written; or None."""
+    for part in filter(str.split, text.split(";")):
+        first, *others = [one[0].lower() for one in split([piece.text for piece in pieces(part)])]
+        meant = meant_name(first, part)
+        names = [meant or first, *others]
+        if name in names and (others or meant and not is_known):
+            return names, part.strip() if meant else None
+    return [name], None
+
+
+def meant_name(name, part):
+    """The name of the directive that is meant by one that is none, or is not ASCII."""
+    if name in grammar.DIRECTIVES:
+        return None if part.isascii() else name
+    bare = name.rstrip(":=")
+    return bare if bare in grammar.DIRECTIVES else nearest(name, grammar.SOURCES + grammar.OTHERS)
 
 
 def of_words(directive):
