@@ -372,6 +372,8 @@ SLIPS = [
      "default-src 'none'; style-src 'self'; connect-src 'self' https://api.test; img-src 'self'",
      "let policy 0 say `style-src 'self'; connect-src 'self' https://api.test; img-src 'self'`, with the semicolon that is "
      "missing before `connect-src` and `img-src`"),
+    ("img-src 'self' data:image/png", load("image", "data:image/png,a"), "img-src 'self' data:",
+     "let policy 0 say `img-src 'self' data:`"),
     ("img-src 'self' upgrade-insecure-requests", load("image", IMAGES + "/i.png"),
      "img-src 'self' https://img.test; upgrade-insecure-requests",
      "missing before `upgrade-insecure-requests`"),

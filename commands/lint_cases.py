@@ -155,6 +155,7 @@ CSP_URLS = {
                                  asking("connect-src https://api.test/v1", API + "/v10/cart")),
     "csp/scheme-alone": (csp_of("img-src https://"), csp_of("img-src https:")),
     "csp/star-behind-scheme": (csp_of("img-src data:*"), csp_of("img-src a.test:*")),
+    "csp/more-behind-scheme": (csp_of("img-src 'self' data:image/png"), csp_of("img-src 'self' data: mediastream:")),
     "csp/one-slash": (csp_of("img-src https:/a.test"), csp_of("img-src https://a.test")),
     "csp/address": (csp_of("img-src https://192.0.2.1"), csp_of("img-src https://192.0.2.1.test")),
     "csp/loopback-address": (csp_of("img-src http://127.0.0.1:8080"), csp_of("img-src http://localhost:8080")),
@@ -325,6 +326,10 @@ MENDED = {
     "default-src 'none'script-src 'self' https://a.test https://b.teststyle-src 'self'; img-src data:font-src 'self'":
         "default-src 'none'; script-src 'self' https://a.test https://b.test; style-src 'self'; img-src data:; "
         "font-src 'self'",
+    "img-src data:image/*; media-src BLOB:https://a.test; font-src https://a.test DATA:font/woff2":
+        "img-src data:; media-src BLOB:; font-src https://a.test DATA:",
+    "default-src 'self' data:image/png": "default-src 'self'",
+    "default-src 'self' data:image/png; script-src 'self' data:text/a": "default-src 'self' data:; script-src 'self'",
     "upgrade-insecure-requestsimg-src self": "upgrade-insecure-requests; img-src 'self'",
     "default-src self; connect-src 'self' api.test report-uri /csp": "default-src 'self'; connect-src 'self' api.test; "
                                                                      "report-uri /csp",

@@ -314,13 +314,24 @@ def local_without_scheme(word):
     return any(origin_of(url) == origin for url in word.asks()) and "http://" + word.text
 
 
-def data_scripts(word):
-    """Where scripts that stand in the page are not let through anyhow."""
-    directive = word.directive
-    is_open = "unsafe-inline" in directive.inner and not directive.has_proof
-    if word.lower != "data:" or "strict-dynamic" in directive.inner or is_open:
+def more_behind_scheme(word):
+    """A scheme that has no host. It is no good for scripts."""
+    found = re.fullmatch(r"((?:data|blob|filesystem|mediastream):)/*[^/].*", word.text, re.I)
+    if not found or word.host is not None:
         return None
-    return directive.name in grammar.SCRIPTS and word.policy.decides("script-src-elem") == directive.name
+    return write("" if found.group(1).lower() == "data:" and opens_scripts(word.directive) else found.group(1))
+
+
+def data_scripts(word):
+    return word.lower == "data:" and opens_scripts(word.directive)
+
+
+def opens_scripts(directive):
+    """Whether a word counts for scripts, and those that stand in the page are not let through anyhow."""
+    is_open = "unsafe-inline" in directive.inner and not directive.has_proof
+    if "strict-dynamic" in directive.inner or is_open:
+        return False
+    return directive.name in grammar.SCRIPTS and directive.policy.decides("script-src-elem") == directive.name
 
 
 def ancestor_path(word):
@@ -360,6 +371,8 @@ URLS = [
          "write `{meant}`"),
     Lint("csp/star-behind-scheme", "a source", star_behind_scheme, "`{it.text}` is a host with any port",
          "write `{meant}`"),
+    Lint("csp/more-behind-scheme", "a source", more_behind_scheme,
+         "`{it.text}` matches nothing: such a scheme stands alone, with its colon", "{meant}"),
     Lint("csp/one-slash", "a source", one_slash, "`{it.text}` is no word: two slashes stand behind the scheme",
          "write `{meant}`"),
     Lint("csp/address", "a source", other_address,

@@ -71,7 +71,8 @@ WORDS = {
         "scheme-without-colon", "http-on-https", "query-or-fragment", "wildcard-scheme", "wildcard-path",
         "scheme-alone", "star-behind-scheme", "one-slash", "localhost-without-scheme", "ancestor-path",
         "report-over-http")], as_meant),
-    **dict.fromkeys(["csp/" + name for name in ("quote-missing", "unknown-keyword", "sandbox-word", "trusted-word")],
+    **dict.fromkeys(["csp/" + name for name in ("quote-missing", "unknown-keyword", "sandbox-word", "trusted-word",
+                                              "more-behind-scheme")],
                     as_written),
     **dict.fromkeys(["csp/" + name for name in (
         "unsafe-allow-redirects", "nonce-elsewhere", "unsafe-elsewhere", "strict-dynamic-elsewhere", "source-twice",
