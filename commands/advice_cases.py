@@ -264,6 +264,17 @@ OTHERS = {
     "a blob of a policy": policed("connect-src *", fetch("blob:https://shop.test/1")),
     "a WebSocket of a policy": policed("default-src 'self'", fetch("wss://api.test:8443/x")),
     "a WebSocket in plain": policed("connect-src 'self'", fetch("ws://shop.test/x")),
+    "a WebSocket that is upgraded": policed("connect-src 'self' wss://api.test" + UPGRADE, fetch("ws://api.test/x")),
+    "a WebSocket that is upgraded, and refused": policed("connect-src 'self'" + UPGRADE, fetch("ws://api.test:8000/x")),
+    "a WebSocket of this machine that is upgraded": policed(
+        "connect-src 'self' wss:" + UPGRADE, fetch("ws://localhost:8000/x")),
+    "a WebSocket of an http page that is upgraded": policed(
+        "connect-src wss:" + UPGRADE, fetch("ws://api.test/x"), page="http://shop.test/"),
+    "a report of a WebSocket that is upgraded": scenario(fetch("ws://api.test/x"), headers=[
+        [POLICY, "upgrade-insecure-requests"], [REPORT, "connect-src wss://api.test"]]),
+    "a report of a WebSocket that is mixed content": scenario(fetch("ws://api.test/x"), headers=[
+        [POLICY, "connect-src https:"], [REPORT, "connect-src wss://api.test"]]),
+    "a WebSocket under a report of upgrades": reported("connect-src *" + UPGRADE, fetch("ws://api.test/x")),
     "a coded body with an integrity text": answered(OK, ["Content-Encoding", "br"], body="abc", integrity=SCRIPT),
     "a file": scenario(fetch("file:///etc/hosts")),
     "a host for a scheme, on a secure page": scenario(fetch("api.test:8443/x"), [rule(200, [OK])], API + ":8443"),

@@ -259,6 +259,11 @@ def origin_source_of(c):
         return "'self'"
     if scheme_of(url) not in ("http", "https", "ws", "wss") or csp.is_address(host_of(url)):
         return scheme_of(url) + ":"
+    return scheme_and_host(url)
+
+
+def scheme_and_host(url):
+    """The origin of a URL, that of a WebSocket too."""
     return re.match(r"[^:]*://[^/?#]*", origin_of(url) or url).group()
 
 
@@ -343,7 +348,7 @@ def before_upgrade(c):
     """The page asks over https itself, and the policy lets that; or the policy has the URL as it is asked for."""
     case, words = of_secure(c), own_words(c)
     passes = csp.passes(c.directive[1], case.policy_asked)
-    plain = [policy_edits(c, [*words, origin_of(c.policy_url)])] if c.is_upgraded_behind else []
+    plain = [policy_edits(c, [*words, scheme_and_host(c.policy_url)])] if c.is_upgraded_behind else []
     return [lead_secure(c) + ([] if passes else with_words(case, words)), *plain]
 
 
