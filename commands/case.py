@@ -421,11 +421,18 @@ class Case:
         if name in own and not csp.may_swallow(own[name]):
             return [name], None
         from commands.lints import mending  # where there is a slip
-        return mending.standing(self.policy_text, name, name in own)
+        text = csp.texts(self.document.get("headers", []))[self.violated.policy][1]
+        return mending.standing(text, name, name in own)
 
-    @property
-    def policy_text(self):
-        return csp.texts(self.document.get("headers", []))[self.violated.policy][1]
+    def joined_by(self, name):
+        """Where commas stand for semicolons, and the violated policy has a directive behind one of them alone: the names
+        that follow these commas; or None."""
+        number = self.violated.policy
+        if name in self.policies[number][1] or name not in self.mended[number]:
+            return None
+        count = self.scenario.mended_policies(self.fetch.document.number)[number].joined
+        following = [policy for _, policy in self.policies[number + 1:number + 1 + count]]
+        return [next(iter(policy)) for policy in following] if any(name in policy for policy in following) else None
 
     def under(self, policies):
         """The same case, where the page has these policies: for each its disposition, and its directives."""

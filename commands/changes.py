@@ -230,7 +230,8 @@ def policy_edits(c, words):
     names, before = c.standing(decider)
     names = [one for one in names if one in values]
     if len(names) < 2:
-        return [edits.policy(number, name, kept, name != decider, before if name == decider else None)]
+        return [edits.policy(number, name, kept, name != decider, before if name == decider else None,
+                             commas=c.joined_by(decider))]
     found = [edits.policy(number, one, values[one], False, None if at else before, names[at - 1] if at else None)
              for at, one in enumerate(names)]
     return found + ([] if name == decider else [edits.policy(number, name, kept, True)])

@@ -8,6 +8,7 @@ answer, page, request or scenario), and `set`, `remove` or `add` what, with its 
     {"at": "page", "policy": 0, "set": "connect-src", "value": "'self' https://api.test"}
     {"at": "page", "policy": 0, "set": "img-src", "value": "'self'", "replaces": "img-scr 'self'"}
     {"at": "page", "policy": 0, "set": "img-src", "value": "'self'", "behind": "style-src"}
+    {"at": "page", "policy": 0, "set": "img-src", "value": "'self'", "commas": ["font-src"]}
     {"at": "page", "add": "Content-Security-Policy", "value": "upgrade-insecure-requests"}
     {"at": "request", "set": "mode", "value": "cors"}
     {"at": "scenario", "set": "body_limit", "value": 1048576}
@@ -37,13 +38,14 @@ def without(method, url, name):
     return {"at": "answer", "method": method, "url": url, "remove": name}
 
 
-def policy(number, name, words, is_new=False, before=None, behind=None):
+def policy(number, name, words, is_new=False, before=None, behind=None, commas=None):
     """A directive with these words, in the place of the one of its name, or of `before`, which is none as it is
-    written; or beside default-src; or behind a directive that has swallowed it, since a semicolon is missing."""
+    written; or beside default-src; or behind a directive that has swallowed it, since a semicolon is missing; or with
+    the policies that begin with the directives `commas`, where the commas before these stand for semicolons."""
     beside = {"beside": "default-src"} if is_new else {}
-    swallowed = {} if behind is None else {"behind": behind}
-    return {"at": "page", "policy": number, "set": name, "value": " ".join(words), **beside, **swallowed,
-            **replacing(before)}
+    more = {"behind": behind, "commas": commas}
+    return {"at": "page", "policy": number, "set": name, "value": " ".join(words), **beside,
+            **{key: value for key, value in more.items() if value is not None}, **replacing(before)}
 
 
 def page(name, value):
@@ -186,6 +188,8 @@ def of_policy(edits):
     swallowed = ["`%s`" % one["set"] for one in edits if "behind" in one]
     said += " in place of `%s`" % cut(edits[0]["replaces"]) if "replaces" in edits[0] else ""
     said += ", with the semicolon that is missing before " + listed(swallowed) if swallowed else ""
+    commas = ["`%s`" % name for one in edits for name in one.get("commas", [])]
+    said += ", with a semicolon for the comma before " + listed(commas) if commas else ""
     there = {one["set"] for one in edits}
     beside = [one["beside"] for one in edits if "beside" in one and one["beside"] not in there]
     return said + " beside its `%s`" % beside[0] if beside else said

@@ -307,6 +307,24 @@ TOLD_ONCE = [
     (asking("connect-src https://api.test/v1 https://api.test/v1/", API + "/v1/cart"), None),
 ]
 
+# Headers with a comma, and the directive that is meant to widen default-src behind it; or None.
+COMMAS = {
+    "default-src 'none'; font-src https://a.test, connect-src https://b.test": "connect-src",
+    "default-src 'none'; font-src https://a.test, connect-src https://b.test; report-uri /csp": "connect-src",
+    "default-src 'self', object-src 'none'; img-src https://b.test; frame-ancestors 'none'": "img-src",
+    "default-src 'none', script-src 'nonce-n1'": "script-src",
+    "img-src https://a.test; font-src https://b.test, default-src 'self'": "img-src",
+    "default-src https:, script-src 'self' 'unsafe-inline'": "script-src",
+    "default-src https:, img-src data:": "img-src",
+    "default-src 'self', object-src 'none'": None, "default-src 'self', upgrade-insecure-requests": None,
+    "default-src 'self', frame-ancestors https://a.test": None, "default-src 'self', script-src 'self' 'nonce-n1' b.test": None,
+    "default-src 'self'; img-src *, img-src https://a.test": None, "default-src 'self', default-src https://a.test": None,
+    "default-src 'self'; report-uri /a, img-src https://a.test; report-uri /b": None,
+    "img-src 'self', font-src https://a.test": None, "default-src *, img-src https://a.test 'self' http:": None,
+    "default-src https:, img-src a.test https://b.test": None,
+    "default-src 'self'; child-src 'self', frame-src https://a.test": None,
+    "default-src 'self'; script-src *, script-src-elem https://a.test": None,
+}
 # Words that end in the name of a directive: where it begins another, what stands before it; else an empty text.
 BEFORE_NAME = {
     "'none'script-src": "'none'", "'self'STYLE-SRC-ELEM": "'self'", "'nonce-n1'style-src": "'nonce-n1'",
@@ -330,6 +348,9 @@ MENDED = {
         "img-src data:; media-src BLOB:; font-src https://a.test DATA:",
     "default-src 'self' data:image/png": "default-src 'self'",
     "default-src 'self' data:image/png; script-src 'self' data:text/a": "default-src 'self' data:; script-src 'self'",
+    "default-src 'none'; font-src a.test, img-src b.test, style-src c.test; report-uri /csp":
+        "default-src 'none'; font-src a.test; img-src b.test; style-src c.test; report-uri /csp",
+    "default-src 'none'; img-src a.test, b.test, font-src c.test": "default-src 'none'; img-src a.test b.test; font-src c.test",
     "upgrade-insecure-requestsimg-src self": "upgrade-insecure-requests; img-src 'self'",
     "default-src self; connect-src 'self' api.test report-uri /csp": "default-src 'self'; connect-src 'self' api.test; "
                                                                      "report-uri /csp",

@@ -8,7 +8,7 @@ from collections import namedtuple
 
 from commands import csp
 from commands.lints import grammar, lints_of
-from commands.lints.csp import comma, is_web_host, misspelt_header, obsolete_header, widened
+from commands.lints.csp import comma, is_web_host, misspelt_header, obsolete_header
 from commands.lints.entry import DOCUMENT, nearest
 from commands.lints.policies import PASTED, Policy, is_swallowed, pieces
 from commands.lints.reading import Field, Headers, topics_of
@@ -194,9 +194,10 @@ def right_name(field):
 
 def of_header(field):
     """Its policies. One behind a comma that is none belongs to the one before, and has no text then."""
-    groups, is_split = [], widened(field) is not None
+    groups = []
     for number, policy in enumerate(field.policies):
         if csp.directives(policy.own_text):
+            is_split = number in field.continued
             if groups and (is_split or comma(policy)):
                 text = groups[-1][1].rstrip(" ;") + joint(policy, is_split) + policy.own_text
                 groups[-1] = groups[-1][0], text, groups[-1][2] + 1

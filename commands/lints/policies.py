@@ -15,6 +15,10 @@ EFFECTIVE = {"fetch": "connect-src", "image": "img-src", "audio": "media-src", "
 QUOTED = re.compile("[\"'`\u201c\u2018]\\s*([A-Za-z-]+)")
 PASTED = re.compile(r"(?:x-)?content-security-policy(?:-report-only)?\s*:|<meta\b", re.I)
 
+# What decides in the place of a directive before default-src does (CSP 3, section 6.8.3).
+BEFORE_DEFAULT = {
+    **{"%s-src-%s" % (kind, part): ("%s-src" % kind,) for kind in ("script", "style") for part in ("elem", "attr")},
+    "frame-src": ("child-src",), "worker-src": ("child-src", "script-src"), "fenced-frame-src": ("frame-src", "child-src")}
 # A word, its place in the header's value, and what stands right before it, without a blank; or an empty text.
 Piece = namedtuple("Piece", "text start source")
 
@@ -26,7 +30,7 @@ class Policy:
     kinds, topics = ("a policy",), ("csp",)
 
     def __init__(self, field, number, text, start=0):
-        self.headers = field.headers
+        self.headers, self.field = field.headers, field
         self.start = start + len(text) - len(text.lstrip())
         self.own_text = text.strip()
         self.where, self.at, self.header = field.where, field.at, field.header
@@ -55,9 +59,54 @@ class Policy:
             if directive.is_known and directive.text.isascii() and not directive.is_again:
                 yield from directive.words
 
+    @property
+    def first_name(self):
+        return self.directives[0].written if self.directives else ""
+
     def decides(self, effective):
         """The name of the directive that decides for an effective one."""
         return csp.deciding(self.effective, effective)[0]
+
+
+def continued(policies):
+    """By the numbers of those behind a comma that surely stands for a semicolon the name of a directive that would widen
+    default-src then. It goes on with what the policy before does not have, and one of both has default-src."""
+    found, whole = {}, {}
+    for policy in policies:
+        first = policy.directives[0] if policy.directives else None
+        is_source = first is not None and first.follows_comma and not first.is_known
+        name = widening(whole, policy.effective) if first is not None and first.is_known else None
+        if name:
+            found[policy.number] = name
+        whole = {**policy.effective, **whole} if name or is_source else dict(policy.effective)
+    return found
+
+
+def widening(one, other):
+    """The first directive of two policies that would widen the default-src of the other; None where both have a
+    directive, or where none has default-src."""
+    if one.keys() & other.keys() or "default-src" not in {**one, **other}:
+        return None
+    base, others = (one, other) if "default-src" in one else (other, one)
+    return next((name for name, directive in others.items()
+                 if name in grammar.FETCH and not base.keys() & set(BEFORE_DEFAULT.get(name, ()))
+                 and is_wider(directive, base["default-src"])), None)
+
+
+def is_wider(directive, default):
+    """Whether it would let more through than a default-src. A nonce or a hash narrows, where that lets some through."""
+    is_closed = default.texts in ([], ["'none'"])
+    return (is_closed or not directive.has_proof) and any(not is_covered(word, default.texts) for word in directive.words)
+
+
+def is_covered(word, texts):
+    """Whether the words of a default-src let through what a word does, or the word nothing."""
+    if word.is_directive or word.lower in ("'none'", *texts) or (word.inner or "").lower() in grammar.REPORTS:
+        return True
+    is_web = word.lower in ("'self'", "http:", "https:") or word.host is not None
+    is_plain = word.text in ("*", "http:") or word.lower.startswith("http://")
+    is_secure = word.policy.headers.scheme == "https" and not is_plain
+    return is_web and ("*" in texts or "https:" in texts and is_secure)
 
 
 class Directive:

@@ -168,6 +168,12 @@ class Field:
     def items(self):
         return [item.strip(" \t") for item in self.value.split(",") if item.strip(" \t")]
 
+    @functools.cached_property
+    def continued(self):
+        """The policies behind a comma that is meant for a semicolon."""
+        from commands.lints.policies import continued
+        return continued(self.policies)
+
     def read_policies(self):
         """Those that have a directive; the empty one where none has."""
         from commands.lints.policies import Policy  # where there is one
