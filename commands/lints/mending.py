@@ -3,6 +3,7 @@ advised is built on these texts, so that a warning and a change never contradict
 from __future__ import annotations
 
 import base64
+import functools
 import re
 from collections import namedtuple
 
@@ -291,6 +292,7 @@ def split(words):
     return parts
 
 
+@functools.lru_cache(256)
 def standing(text, name, is_known):
     """How a policy's text has a directive: the names of all that stand in one part of it, since semicolons are missing,
     and that part, where it begins with no directive as it is written; or None."""
