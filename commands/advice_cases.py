@@ -381,8 +381,8 @@ SLIPS = [
      "in place of `font-src \u2018self\u2019`"),
     ("default-src 'none'; style-src 'self' connect-src 'self' img-src 'self'", fetch(),
      "default-src 'none'; style-src 'self'; connect-src 'self' https://api.test; img-src 'self'",
-     "let policy 0 say `style-src 'self'; connect-src 'self' https://api.test; img-src 'self'`, with the semicolon that is "
-     "missing before `connect-src` and `img-src`"),
+     "let policy 0 say `style-src 'self'; connect-src 'self' https://api.test; img-src 'self'`, with the semicolon "
+     "that is missing before `connect-src` and `img-src`"),
     ("img-src 'self' data:image/png", load("image", "data:image/png,a"), "img-src 'self' data:",
      "let policy 0 say `img-src 'self' data:`"),
     ("default-src 'none'; font-src 'self', img-src 'self'; connect-src https://api.test", fetch(),
@@ -390,14 +390,14 @@ SLIPS = [
      "let policy 0 say `connect-src https://api.test`, with a semicolon for the comma before `img-src`"),
     ("default-src 'none', img-src 'self', connect-src 'self'", fetch(),
      "default-src 'none'; img-src 'self'; connect-src 'self' https://api.test",
-     "let policy 0 say `connect-src 'self' https://api.test`, with a semicolon for the comma before `img-src` and `conn"),
+     "let policy 0 say `connect-src 'self' https://api.test`, with a semicolon for the comma before `img-src` and "),
     ("img-src 'self' upgrade-insecure-requests", load("image", IMAGES + "/i.png"),
      "img-src 'self' https://img.test; upgrade-insecure-requests",
      "missing before `upgrade-insecure-requests`"),
     ("default-src 'self' img-src 'self'", load("font", IMAGES + "/f"),
      "default-src 'self'; img-src 'self'; font-src 'self' https://img.test",
-     "let policy 0 say `default-src 'self'; img-src 'self'; font-src 'self' https://img.test`, with the semicolon that is "
-     "missing before `img-src`"),
+     "let policy 0 say `default-src 'self'; img-src 'self'; font-src 'self' https://img.test`, with the semicolon that "
+     "is missing before `img-src`"),
     ("default-src 'none'; style-scr 'self' connect-src https://api.test", fetch(),
      "default-src 'none'; style-src 'self'; connect-src https://api.test",
      "in place of `style-scr 'self' connect-src https://api.test`, with the semicolon"),

@@ -425,8 +425,8 @@ class Case:
         return mending.standing(text, name, name in own)
 
     def joined_by(self, name):
-        """Where commas stand for semicolons, and the violated policy has a directive behind one of them alone: the names
-        that follow these commas; or None."""
+        """Where commas stand for semicolons, and the violated policy has a directive behind one of them alone: the
+        names that follow these commas; or None."""
         number = self.violated.policy
         if name in self.policies[number][1] or name not in self.mended[number]:
             return None

@@ -220,8 +220,8 @@ def secure_page(c):
 
 def policy_edits(c, words):
     """The directive of the violated policy, or where words are added the one that is to stand beside default-src, with
-    these words that mean something in it; and where it stands among the words of another, or others among its own, since
-    a semicolon is missing, all of these."""
+    these words that mean something in it; and where it stands among the words of another, or others among its own,
+    since a semicolon is missing, all of these."""
     number = c.violated.policy
     decider, there = c.words_to_change
     name = decider if words == there else csp.written_for(decider, c.violated.directive)

@@ -70,7 +70,8 @@ def directives(text):
 
 
 def with_directive(text, name, value, before=None):
-    """The text of a policy with a directive in the place of the one of this name, or of the text before; or behind all."""
+    """The text of a policy with a directive in the place of the one of this name, or of the text `before`; or behind
+    all."""
     parts = [part.strip() for part in text.split(";") if part.strip()]
     index = next((number for number, part in enumerate(parts)
                   if (part == before if before else part.split()[0].lower() == name)), len(parts))

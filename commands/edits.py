@@ -184,15 +184,19 @@ def policy_of(edit):
 def of_policy(edits):
     """The directives of one policy."""
     directives = "; ".join(("%s %s" % (one["set"], shortened(one["value"]))).strip() for one in edits)
-    said = "policy %d say `%s`" % (edits[0]["policy"], directives)
-    swallowed = ["`%s`" % one["set"] for one in edits if "behind" in one]
-    said += " in place of `%s`" % cut(edits[0]["replaces"]) if "replaces" in edits[0] else ""
-    said += ", with the semicolon that is missing before " + listed(swallowed) if swallowed else ""
-    commas = ["`%s`" % name for one in edits for name in one.get("commas", [])]
-    said += ", with a semicolon for the comma before " + listed(commas) if commas else ""
     there = {one["set"] for one in edits}
     beside = [one["beside"] for one in edits if "beside" in one and one["beside"] not in there]
+    said = "policy %d say `%s`%s" % (edits[0]["policy"], directives, of_slips(edits))
     return said + " beside its `%s`" % beside[0] if beside else said
+
+
+def of_slips(edits):
+    """What stands there now in the place of directives, where it is misspelt or they lack their semicolons."""
+    swallowed = ["`%s`" % one["set"] for one in edits if "behind" in one]
+    commas = ["`%s`" % name for one in edits for name in one.get("commas", [])]
+    said = " in place of `%s`" % cut(edits[0]["replaces"]) if "replaces" in edits[0] else ""
+    said += ", with the semicolon that is missing before " + listed(swallowed) if swallowed else ""
+    return said + (", with a semicolon for the comma before " + listed(commas) if commas else "")
 
 
 def of_request(edits, before):

@@ -79,8 +79,8 @@ class Node:
 
 @functools.lru_cache(16)
 def escapes_of(text):
-    """The numbers of the characters behind the escapes of a string, as it is written, and by how much it is longer there
-    than its value: up to the first one, and behind each."""
+    """The numbers of the characters behind the escapes of a string, as it is written, and by how much it is longer
+    there than its value: up to the first one, and behind each."""
     ends, longer = [], [0]
     for found in ONE_CHARACTER.finditer(text):
         ends.append(found.start() - longer[-1])

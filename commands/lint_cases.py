@@ -317,8 +317,10 @@ COMMAS = {
     "default-src https:, script-src 'self' 'unsafe-inline'": "script-src",
     "default-src https:, img-src data:": "img-src",
     "default-src 'self', object-src 'none'": None, "default-src 'self', upgrade-insecure-requests": None,
-    "default-src 'self', frame-ancestors https://a.test": None, "default-src 'self', script-src 'self' 'nonce-n1' b.test": None,
-    "default-src 'self'; img-src *, img-src https://a.test": None, "default-src 'self', default-src https://a.test": None,
+    "default-src 'self', frame-ancestors https://a.test": None,
+    "default-src 'self', script-src 'self' 'nonce-n1' b.test": None,
+    "default-src 'self'; img-src *, img-src https://a.test": None,
+    "default-src 'self', default-src https://a.test": None,
     "default-src 'self'; report-uri /a, img-src https://a.test; report-uri /b": None,
     "img-src 'self', font-src https://a.test": None, "default-src *, img-src https://a.test 'self' http:": None,
     "default-src https:, img-src a.test https://b.test": None,
@@ -350,7 +352,8 @@ MENDED = {
     "default-src 'self' data:image/png; script-src 'self' data:text/a": "default-src 'self' data:; script-src 'self'",
     "default-src 'none'; font-src a.test, img-src b.test, style-src c.test; report-uri /csp":
         "default-src 'none'; font-src a.test; img-src b.test; style-src c.test; report-uri /csp",
-    "default-src 'none'; img-src a.test, b.test, font-src c.test": "default-src 'none'; img-src a.test b.test; font-src c.test",
+    "default-src 'none'; img-src a.test, b.test, font-src c.test":
+        "default-src 'none'; img-src a.test b.test; font-src c.test",
     "upgrade-insecure-requestsimg-src self": "upgrade-insecure-requests; img-src 'self'",
     "default-src self; connect-src 'self' api.test report-uri /csp": "default-src 'self'; connect-src 'self' api.test; "
                                                                      "report-uri /csp",

@@ -188,7 +188,8 @@ def difference(question, case):
 
 def not_allowed(text, case, violations, is_blocked, is_reported):
     if is_blocked or not (case.exchanges or case.is_open):  # by another rule, where nothing is sent
-        yield "allowed: expected that %s is let through; %s" % (text, refused_by(case) or "it came to " + case.result.short())
+        came = refused_by(case) or "it came to " + case.result.short()
+        yield "allowed: expected that %s is let through; %s" % (text, came)
         yield from advised(case, False)
 
 

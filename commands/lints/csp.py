@@ -109,8 +109,8 @@ def widening(policy):
 
 POLICIES = [
     Lint("csp/comma-for-semicolon", "a policy", widening,
-         "the comma before `{it.first_name}` begins a policy of its own, and each must let a request through: `{meant}` does "
-         "not widen `default-src`, which stands in another", "write a semicolon for the comma"),
+         "the comma before `{it.first_name}` begins a policy of its own, and each must let a request through: "
+         "`{meant}` does not widen `default-src`, which stands in another", "write a semicolon for the comma"),
     Lint("csp/does-nothing", "a policy", does_nothing, "nothing in this policy restricts anything",
          "add a directive such as `default-src 'self'`"),
     Lint("csp/report-only-unheard", "a policy", is_unheard,

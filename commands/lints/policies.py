@@ -18,7 +18,8 @@ PASTED = re.compile(r"(?:x-)?content-security-policy(?:-report-only)?\s*:|<meta\
 # What decides in the place of a directive before default-src does (CSP 3, section 6.8.3).
 BEFORE_DEFAULT = {
     **{"%s-src-%s" % (kind, part): ("%s-src" % kind,) for kind in ("script", "style") for part in ("elem", "attr")},
-    "frame-src": ("child-src",), "worker-src": ("child-src", "script-src"), "fenced-frame-src": ("frame-src", "child-src")}
+    "frame-src": ("child-src",), "worker-src": ("child-src", "script-src"),
+    "fenced-frame-src": ("frame-src", "child-src")}
 # A word, its place in the header's value, and what stands right before it, without a blank; or an empty text.
 Piece = namedtuple("Piece", "text start source")
 
@@ -69,8 +70,8 @@ class Policy:
 
 
 def continued(policies):
-    """By the numbers of those behind a comma that surely stands for a semicolon the name of a directive that would widen
-    default-src then. It goes on with what the policy before does not have, and one of both has default-src."""
+    """By the numbers of those behind a comma that surely stands for a semicolon the name of a directive that would
+    widen default-src then. It goes on with what the policy before does not have, and one of both has default-src."""
     found, whole = {}, {}
     for policy in policies:
         first = policy.directives[0] if policy.directives else None
@@ -96,7 +97,8 @@ def widening(one, other):
 def is_wider(directive, default):
     """Whether it would let more through than a default-src. A nonce or a hash narrows, where that lets some through."""
     is_closed = default.texts in ([], ["'none'"])
-    return (is_closed or not directive.has_proof) and any(not is_covered(word, default.texts) for word in directive.words)
+    is_narrower = directive.has_proof and not is_closed
+    return not is_narrower and any(not is_covered(word, default.texts) for word in directive.words)
 
 
 def is_covered(word, texts):
@@ -162,7 +164,7 @@ class Directive:
 
 
 def pieces(text, start=0):
-    """The words of a directive's text, with their places. One that goes on with the name of another directive is two."""
+    """The words of a directive's text, with their places. One that goes on with the name of another is two."""
     is_free = takes_names((text.split() or [""])[0].lower())
     for found in re.finditer(r"\S+", text):
         at, source = start + found.start(), "" if is_free else grammar.before_name(found.group())
@@ -182,8 +184,8 @@ def is_swallowed(text, name):
 
 
 class Word:
-    """A word of a directive; `inner` is what its quotes hold, or None, and `source` what stands right before it, without
-    a blank."""
+    """A word of a directive; `inner` is what its quotes hold, or None, and `source` what stands right before it,
+    without a blank."""
 
     topics = ("csp", "csp_words")
 
