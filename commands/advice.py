@@ -124,8 +124,21 @@ def at_page(data, case, edit):
     if "policy" not in edit:
         document[edit["set"]] = edit["value"]
         return
-    change_policies(document, lambda number, text: csp.with_directive(text, edit["set"], edit["value"])
-                    if number == edit["policy"] else text)
+    join_policies(document, edit["policy"], len(edit.get("commas", [])))
+    change_policies(document, lambda number, text: csp.with_directive(
+        text, edit["set"], edit["value"], edit.get("replaces")) if number == edit["policy"] else text)
+
+
+def join_policies(document, first, count):
+    """Puts semicolons in the place of so many commas behind a policy."""
+    number = 0
+    for header in document.get("headers", []):
+        parts = []
+        for part in header[1].split(",") if header[0].lower() in csp.HEADERS else []:
+            is_joined = csp.directives(part) and first < number <= first + count
+            number += bool(csp.directives(part))
+            parts += [";".join([parts.pop(), part])] if is_joined else [part]
+        header[1] = ",".join(parts) if parts else header[1]
 
 
 def change_policies(document, change):

@@ -270,6 +270,17 @@ OTHERS = {
     "a blob of a policy": policed("connect-src *", fetch("blob:https://shop.test/1")),
     "a WebSocket of a policy": policed("default-src 'self'", fetch("wss://api.test:8443/x")),
     "a WebSocket in plain": policed("connect-src 'self'", fetch("ws://shop.test/x")),
+    "a WebSocket that is upgraded": policed("connect-src 'self' wss://api.test" + UPGRADE, fetch("ws://api.test/x")),
+    "a WebSocket that is upgraded, and refused": policed("connect-src 'self'" + UPGRADE, fetch("ws://api.test:8000/x")),
+    "a WebSocket of this machine that is upgraded": policed(
+        "connect-src 'self' wss:" + UPGRADE, fetch("ws://localhost:8000/x")),
+    "a WebSocket of an http page that is upgraded": policed(
+        "connect-src wss:" + UPGRADE, fetch("ws://api.test/x"), page="http://shop.test/"),
+    "a report of a WebSocket that is upgraded": scenario(fetch("ws://api.test/x"), headers=[
+        [POLICY, "upgrade-insecure-requests"], [REPORT, "connect-src wss://api.test"]]),
+    "a report of a WebSocket that is mixed content": scenario(fetch("ws://api.test/x"), headers=[
+        [POLICY, "connect-src https:"], [REPORT, "connect-src wss://api.test"]]),
+    "a WebSocket under a report of upgrades": reported("connect-src *" + UPGRADE, fetch("ws://api.test/x")),
     "a coded body with an integrity text": answered(OK, ["Content-Encoding", "br"], body="abc", integrity=SCRIPT),
     "a file": scenario(fetch("file:///etc/hosts")),
     "a host for a scheme, on a secure page": scenario(fetch("api.test:8443/x"), [rule(200, [OK])], API + ":8443"),
@@ -363,6 +374,44 @@ WHOLE = {
         scenario([fetch("/go")], [led(API + "/x")], PAGE, headers=[[POLICY, "connect-src 'none'"]],
                  **at(API, rule(200, [OK]))), {0: "connect-src 'self' https://api.test"}),
 }
+
+
+# A policy with a slip, what a page loads, the policy with the first change that is named, and a part of its sentence.
+SLIPS = [
+    ("default-src 'none'; connect-scr 'self' https://api.test", fetch(),
+     "default-src 'none'; connect-src 'self' https://api.test",
+     "let policy 0 say `connect-src 'self' https://api.test` in place of `connect-scr 'self' https://api.test`"),
+    ("default-src 'none'; connect-src: 'self'", fetch(), "default-src 'none'; connect-src 'self' https://api.test",
+     "in place of `connect-src: 'self'`"),
+    ("default-src 'none'; font-src \u2018self\u2019", load("font", "/f"), "default-src 'none'; font-src 'self'",
+     "in place of `font-src \u2018self\u2019`"),
+    ("default-src 'none'; style-src 'self' connect-src 'self' img-src 'self'", fetch(),
+     "default-src 'none'; style-src 'self'; connect-src 'self' https://api.test; img-src 'self'",
+     "let policy 0 say `style-src 'self'; connect-src 'self' https://api.test; img-src 'self'`, with the semicolon "
+     "that is missing before `connect-src` and `img-src`"),
+    ("img-src 'self' data:image/png", load("image", "data:image/png,a"), "img-src 'self' data:",
+     "let policy 0 say `img-src 'self' data:`"),
+    ("default-src 'none'; font-src 'self', img-src 'self'; connect-src https://api.test", fetch(),
+     "default-src 'none'; font-src 'self'; img-src 'self'; connect-src https://api.test",
+     "let policy 0 say `connect-src https://api.test`, with a semicolon for the comma before `img-src`"),
+    ("default-src 'none', img-src 'self', connect-src 'self'", fetch(),
+     "default-src 'none'; img-src 'self'; connect-src 'self' https://api.test",
+     "let policy 0 say `connect-src 'self' https://api.test`, with a semicolon for the comma before `img-src` and "),
+    ("img-src 'self' upgrade-insecure-requests", load("image", IMAGES + "/i.png"),
+     "img-src 'self' https://img.test; upgrade-insecure-requests",
+     "missing before `upgrade-insecure-requests`"),
+    ("default-src 'self' img-src 'self'", load("font", IMAGES + "/f"),
+     "default-src 'self'; img-src 'self'; font-src 'self' https://img.test",
+     "let policy 0 say `default-src 'self'; img-src 'self'; font-src 'self' https://img.test`, with the semicolon that "
+     "is missing before `img-src`"),
+    ("default-src 'none'; style-scr 'self' connect-src https://api.test", fetch(),
+     "default-src 'none'; style-src 'self'; connect-src https://api.test",
+     "in place of `style-scr 'self' connect-src https://api.test`, with the semicolon"),
+    ("font-src https://img.testconnect-src https://api.test; default-src 'self'", fetch(),
+     "font-src https://img.test; default-src 'self'; connect-src https://api.test",
+     "let policy 0 say `font-src https://img.test; connect-src https://api.test`, with the semicolon that is missing "
+     "before `connect-src`"),
+]
 
 
 def scripted():

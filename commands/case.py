@@ -240,16 +240,23 @@ class Case:
 
     def upgrade_of(self, hop):
         """What made the URL of a hop one of https: hsts, policy or mixed; None where nothing did."""
+        if self.is_plain_socket:  # it is asked for over http, so the policy upgrades it
+            return "policy" if self.upgrades_all else None
         if scheme_of(hop.asked) != "http" or (hop.origin or "https:").startswith("http:"):
             return None
         if hop.is_known:
             return "hsts"
         if hop.origin is None and (self.result.is_fault or self.result.number in (1, 3)):
             return None
-        if any(enforced and "upgrade-insecure-requests" in policy for enforced, policy in self.policies):
+        if self.upgrades_all:
             return "policy"
         is_upgradeable = self.kind in ("image", "audio", "video") and self.is_secure and not is_trustworthy(hop.asked)
         return "mixed" if is_upgradeable and not is_address(host_of(hop.asked)) else None
+
+    @property
+    def upgrades_all(self):
+        """Whether a policy of the page has all URLs upgraded."""
+        return any(enforced and "upgrade-insecure-requests" in policy for enforced, policy in self.policies)
 
     def upgraded(self, hop):
         """The URL of a hop as enforced policies are asked of it."""
@@ -440,6 +447,26 @@ class Case:
         name, words = csp.deciding(self.mended[self.violated.policy], self.violated.directive)
         return (name, words) if name in self.mended[self.violated.policy] else self.directive
 
+    def standing(self, name):
+        """How the violated policy has a directive that is mended: the names of those in whose text it stands, since
+        semicolons are missing, and that text, where it is no directive of this name as it is written; or None."""
+        own = self.policies[self.violated.policy][1]
+        if name in own and not csp.may_swallow(own[name]):
+            return [name], None
+        from commands.lints import mending  # where there is a slip
+        text = csp.texts(self.document.get("headers", []))[self.violated.policy][1]
+        return mending.standing(text, name, name in own)
+
+    def joined_by(self, name):
+        """Where commas stand for semicolons, and the violated policy has a directive behind one of them alone: the
+        names that follow these commas; or None."""
+        number = self.violated.policy
+        if name in self.policies[number][1] or name not in self.mended[number]:
+            return None
+        count = self.scenario.mended_policies(self.fetch.document.number)[number].joined
+        following = [policy for _, policy in self.policies[number + 1:number + 1 + count]]
+        return [next(iter(policy)) for policy in following] if any(name in policy for policy in following) else None
+
     def under(self, policies):
         """The same case, where the page has these policies: for each its disposition, and its directives."""
         case = copy.copy(self)
@@ -460,7 +487,7 @@ class Case:
                 hop = hops[index]
                 url = hop.sent if at_response else self.upgraded(hop) if event.enforced else hop.asked
                 found.append(Violation(event.policy, event.enforced, event.directive, url, index > 0, at_response))
-        return distinct(self.would_violate() if self.is_unloaded and not self.is_mixed_socket else found)
+        return distinct(self.would_violate() if self.is_unloaded else found)
 
     def would_violate(self):
         """The policies that refuse a URL of the chain, or report it."""
@@ -471,7 +498,7 @@ class Case:
         another rule refuses before."""
         effective, hops = csp.EFFECTIVE[self.kind], self.hops + self.hops_ahead if self.is_asked_for else []
         for index, hop in enumerate(hops):
-            is_refused = self.result.number in (2, 3) and hop is self.hops[-1]
+            is_refused = self.is_mixed_socket or self.result.number in (2, 3) and hop is self.hops[-1]
             for number, (enforced, _) in enumerate(self.policies):
                 url = self.upgraded(hop) if enforced else hop.asked
                 if not (enforced and is_refused):
@@ -512,8 +539,7 @@ class Case:
     @property
     def is_asked_for(self):
         """Whether a policy is asked of it: it is no fault, and of a scheme that a browser loads."""
-        is_loaded = self.result.number != 1 or (self.is_unloaded and not self.is_mixed_socket)
-        return not self.result.is_fault and is_loaded
+        return not self.result.is_fault and (self.result.number != 1 or self.is_unloaded)
 
     def is_violation(self, violation):
         policy = self.policies[violation.policy][1]
@@ -628,7 +654,7 @@ class Case:
     def is_before_upgrade(self):
         """Whether a report-only policy was asked of a URL that is upgraded behind it, or refused as mixed content."""
         return (not self.violated.enforced and not self.violated.at_response and self.is_secure
-                and scheme_of(self.policy_url) == "http" and not is_trustworthy(self.policy_url))
+                and scheme_of(self.policy_url) in ("http", "ws") and not is_trustworthy(self.policy_url))
 
     @property
     def is_upgraded_behind(self):
@@ -644,12 +670,18 @@ class Case:
     @property
     def is_unloaded(self):
         """Whether a browser would load the URL, and this engine does not."""
-        is_socket = self.kind == "fetch" and scheme_of(self.url) in SOCKETS
-        return self.result.number == 1 and not self.result.is_fault and (scheme_of(self.url) in LOCAL or is_socket)
+        if self.result.number != 1 or self.result.is_fault:
+            return False
+        return scheme_of(self.url) in (LOCAL + SOCKETS if self.kind == "fetch" else LOCAL)
+
+    @property
+    def is_plain_socket(self):
+        return self.is_unloaded and scheme_of(self.url) == "ws"
 
     @property
     def is_mixed_socket(self):
-        return self.is_secure and scheme_of(self.url) == "ws" and not is_trustworthy(self.url)
+        """Whether it is refused as mixed content: it is looked at behind the upgrade."""
+        return self.is_plain_socket and self.is_secure and not (self.upgrades_all or is_trustworthy(self.url))
 
     @property
     def policy_verdict(self):

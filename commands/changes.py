@@ -220,15 +220,21 @@ def secure_page(c):
 
 def policy_edits(c, words):
     """The directive of the violated policy, or where words are added the one that is to stand beside default-src, with
-    these words that mean something in it; and the directives that stand among them, since a semicolon is missing."""
-    number, own = c.violated.policy, c.policies[c.violated.policy][1]
+    these words that mean something in it; and where it stands among the words of another, or others among its own,
+    since a semicolon is missing, all of these."""
+    number = c.violated.policy
     decider, there = c.words_to_change
     name = decider if words == there else csp.written_for(decider, c.violated.directive)
-    swallowed = [word.lower() for word in own.get(name, [])]
-    split = [(one, more) for one, more in c.mended[number].items() if one in swallowed and one not in own]
-    kept = words if name == decider else csp.meaningful(words, name)
-    return [edits.policy(number, name, list(dict.fromkeys(kept)), name != decider),
-            *(edits.policy(number, one, more) for one, more in split)]
+    kept = list(dict.fromkeys(words if name == decider else csp.meaningful(words, name)))
+    values = {**c.mended[number], **({decider: kept} if name == decider else {})}
+    names, before = c.standing(decider)
+    names = [one for one in names if one in values]
+    if len(names) < 2:
+        return [edits.policy(number, name, kept, name != decider, before if name == decider else None,
+                             commas=c.joined_by(decider))]
+    found = [edits.policy(number, one, values[one], False, None if at else before, names[at - 1] if at else None)
+             for at, one in enumerate(names)]
+    return found + ([] if name == decider else [edits.policy(number, name, kept, True)])
 
 
 def source_of(c):
@@ -254,6 +260,11 @@ def origin_source_of(c):
         return "'self'"
     if scheme_of(url) not in ("http", "https", "ws", "wss") or csp.is_address(host_of(url)):
         return scheme_of(url) + ":"
+    return scheme_and_host(url)
+
+
+def scheme_and_host(url):
+    """The origin of a URL, that of a WebSocket too."""
     return re.match(r"[^:]*://[^/?#]*", origin_of(url) or url).group()
 
 
@@ -338,7 +349,7 @@ def before_upgrade(c):
     """The page asks over https itself, and the policy lets that; or the policy has the URL as it is asked for."""
     case, words = of_secure(c), own_words(c)
     passes = csp.passes(c.directive[1], case.policy_asked)
-    plain = [policy_edits(c, [*words, origin_of(c.policy_url)])] if c.is_upgraded_behind else []
+    plain = [policy_edits(c, [*words, scheme_and_host(c.policy_url)])] if c.is_upgraded_behind else []
     return [lead_secure(c) + ([] if passes else with_words(case, words)), *plain]
 
 

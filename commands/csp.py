@@ -21,6 +21,9 @@ SCHEME = re.compile(r"([A-Za-z][A-Za-z0-9+.-]*):")
 HOST = re.compile(r"(?:([A-Za-z][A-Za-z0-9+.-]*)://)?"
                   r"(\*|(?:\*\.)?[A-Za-z0-9-]+(?:\.[A-Za-z0-9-]+)*\.?)(?::([0-9]+|\*))?"
                   r"(/(?!/)(?:[A-Za-z0-9/\-._~!$&'()*+=:@]|%[0-9A-Fa-f]{2})*)?")
+# What the names of directives that consist of several parts end in.
+LAST_PARTS = ("-src", "-elem", "-attr", "-uri", "-action", "-ancestors", "-to", "-requests", "-types", "-for",
+              "-content", "-opener", "-xss")
 PORTS = {"http": 80, "https": 443}
 SCHEMES = ("http", "https", "ws", "wss", "data", "blob")
 MOST_LABELS = 127  # of a domain
@@ -66,11 +69,18 @@ def directives(text):
     return policy
 
 
-def with_directive(text, name, value):
-    """The text of a policy with a directive in the place of the one of this name, or behind all."""
+def with_directive(text, name, value, before=None):
+    """The text of a policy with a directive in the place of the one of this name, or of the text `before`; or behind
+    all."""
     parts = [part.strip() for part in text.split(";") if part.strip()]
-    index = next((number for number, part in enumerate(parts) if part.split()[0].lower() == name), len(parts))
-    return "; ".join([*parts[:index], name + " " + value, *parts[index + 1:]])
+    index = next((number for number, part in enumerate(parts)
+                  if (part == before if before else part.split()[0].lower() == name)), len(parts))
+    return "; ".join([*parts[:index], (name + " " + value).strip(), *parts[index + 1:]])
+
+
+def may_swallow(words):
+    """Whether the name of another directive may stand among words, since a semicolon is missing."""
+    return any("-" in word and word.lower().endswith(LAST_PARTS) for word in words)
 
 
 def deciders(effective):

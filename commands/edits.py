@@ -6,6 +6,9 @@ answer, page, request or scenario), and `set`, `remove` or `add` what, with its 
     {"at": "preflight", "method": "OPTIONS", "url": "https://api.test/x", "set": "status", "value": 204}
     {"at": "answer", "method": "GET", "url": "https://api.test/x", "set": "Vary", "value": "A, Origin", "replaces": "A"}
     {"at": "page", "policy": 0, "set": "connect-src", "value": "'self' https://api.test"}
+    {"at": "page", "policy": 0, "set": "img-src", "value": "'self'", "replaces": "img-scr 'self'"}
+    {"at": "page", "policy": 0, "set": "img-src", "value": "'self'", "behind": "style-src"}
+    {"at": "page", "policy": 0, "set": "img-src", "value": "'self'", "commas": ["font-src"]}
     {"at": "page", "add": "Content-Security-Policy", "value": "upgrade-insecure-requests"}
     {"at": "request", "set": "mode", "value": "cors"}
     {"at": "scenario", "set": "body_limit", "value": 1048576}
@@ -37,10 +40,14 @@ def without(method, url, name):
     return {"at": "answer", "method": method, "url": url, "remove": name}
 
 
-def policy(number, name, words, is_new=False):
-    """A directive with these words, in the place of the one of its name, or beside default-src."""
+def policy(number, name, words, is_new=False, before=None, behind=None, commas=None):
+    """A directive with these words, in the place of the one of its name, or of `before`, which is none as it is
+    written; or beside default-src; or behind a directive that has swallowed it, since a semicolon is missing; or with
+    the policies that begin with the directives `commas`, where the commas before these stand for semicolons."""
     beside = {"beside": "default-src"} if is_new else {}
-    return {"at": "page", "policy": number, "set": name, "value": " ".join(words), **beside}
+    more = {"behind": behind, "commas": commas}
+    return {"at": "page", "policy": number, "set": name, "value": " ".join(words), **beside,
+            **{key: value for key, value in more.items() if value is not None}, **replacing(before)}
 
 
 def page(name, value):
@@ -96,8 +103,12 @@ def told(edit):
     before = edit.get("replaces")
     if before in (None, edit["value"]):
         return line_of(edit)
-    shown = before if len(before) <= LONGEST_BEFORE else before[:LONGEST_BEFORE] + ".."
-    return "%s in place of `%s`%s" % (line_of(edit), shown, NO_WILDCARD if is_star_gone(edit) else "")
+    return "%s in place of `%s`%s" % (line_of(edit), cut(before), NO_WILDCARD if is_star_gone(edit) else "")
+
+
+def cut(before):
+    """What is replaced, as a sentence has it."""
+    return before if len(before) <= LONGEST_BEFORE else before[:LONGEST_BEFORE] + ".."
 
 
 def is_star_gone(edit):
@@ -176,10 +187,20 @@ def policy_of(edit):
 
 def of_policy(edits):
     """The directives of one policy."""
-    directives = "; ".join("%s %s" % (one["set"], shortened(one["value"])) for one in edits)
-    said = "policy %d say `%s`" % (edits[0]["policy"], directives)
-    beside = [one["beside"] for one in edits if "beside" in one]
+    directives = "; ".join(("%s %s" % (one["set"], shortened(one["value"]))).strip() for one in edits)
+    there = {one["set"] for one in edits}
+    beside = [one["beside"] for one in edits if "beside" in one and one["beside"] not in there]
+    said = "policy %d say `%s`%s" % (edits[0]["policy"], directives, of_slips(edits))
     return said + " beside its `%s`" % beside[0] if beside else said
+
+
+def of_slips(edits):
+    """What stands there now in the place of directives, where it is misspelt or they lack their semicolons."""
+    swallowed = ["`%s`" % one["set"] for one in edits if "behind" in one]
+    commas = ["`%s`" % name for one in edits for name in one.get("commas", [])]
+    said = " in place of `%s`" % cut(edits[0]["replaces"]) if "replaces" in edits[0] else ""
+    said += ", with the semicolon that is missing before " + listed(swallowed) if swallowed else ""
+    return said + (", with a semicolon for the comma before " + listed(commas) if commas else "")
 
 
 def of_request(edits, before):

@@ -3,6 +3,7 @@
 What is taken is what the program takes: RFC 8259 in UTF-8, nested no more than 127 deep. A place is a number of characters
 from the beginning."""
 import bisect
+import functools
 import re
 
 DEEPEST = 127
@@ -14,6 +15,8 @@ PLAIN = re.compile(r'[^"\\\x00-\x1f]*')
 ESCAPE = re.compile(r'\\(?:["\\/bfnrt]|u[0-9a-fA-F]{4})')
 WORDS = {"true": True, "false": False, "null": None}
 MEANT = {"True": "true", "TRUE": "true", "yes": "true", "False": "false", "FALSE": "false", "no": "false"}
+# An escape, or both of a surrogate pair.
+ONE_CHARACTER = re.compile(r"\\u[dD][89abAB][0-9a-fA-F]{2}\\u[dD][c-fC-F][0-9a-fA-F]{2}|" + ESCAPE.pattern)
 SHORT = {"b": "\b", "f": "\f", "n": "\n", "r": "\r", "t": "\t"}
 CURLY = "\u201c\u201d\u201e\u201f\u00ab\u00bb"
 SINGLE = "'`\u2018\u2019"
@@ -60,6 +63,11 @@ class Node:
             node = node.items[word] if isinstance(word, int) else node.member(word)
         return node
 
+    def place_of(self, index):
+        """The place in the whole text of a character of a string's value."""
+        ends, longer = escapes_of(self.text)
+        return self.start + 1 + index + longer[bisect.bisect_right(ends, index)]
+
     def plain(self):
         """The value as Python has it."""
         if self.kind == "object":
@@ -67,6 +75,17 @@ class Node:
         if self.kind == "list":
             return [item.plain() for item in self.items]
         return self.value
+
+
+@functools.lru_cache(16)
+def escapes_of(text):
+    """The numbers of the characters behind the escapes of a string, as it is written, and by how much it is longer
+    there than its value: up to the first one, and behind each."""
+    ends, longer = [], [0]
+    for found in ONE_CHARACTER.finditer(text):
+        ends.append(found.start() - longer[-1])
+        longer.append(longer[-1] + len(found.group()) - 1)
+    return ends, longer
 
 
 def decoded(data):

@@ -116,6 +116,8 @@ CSP_DIRECTIVES = {
 }
 CSP_WORDS = {
     "csp/semicolon-missing": (csp_of("img-src 'self' font-src 'self'"), csp_of("img-src 'self' font-src.test")),
+    "csp/name-behind-source": (csp_of("default-src 'none'script-src 'self'"),
+                               csp_of("img-src https://a.test/img-src img-src.test")),
     "csp/sandbox-word": (csp_of("sandbox allow-script"), csp_of("sandbox allow-scripts")),
     "csp/trusted-sink": (csp_of("require-trusted-types-for script"), csp_of("require-trusted-types-for 'script'")),
     "csp/trusted-word": (csp_of("trusted-types none"), csp_of("trusted-types one two 'allow-duplicates'")),
@@ -156,6 +158,7 @@ CSP_URLS = {
                                  asking("connect-src https://api.test/v1", API + "/v10/cart")),
     "csp/scheme-alone": (csp_of("img-src https://"), csp_of("img-src https:")),
     "csp/star-behind-scheme": (csp_of("img-src data:*"), csp_of("img-src a.test:*")),
+    "csp/more-behind-scheme": (csp_of("img-src 'self' data:image/png"), csp_of("img-src 'self' data: mediastream:")),
     "csp/one-slash": (csp_of("img-src https:/a.test"), csp_of("img-src https://a.test")),
     "csp/address": (csp_of("img-src https://192.0.2.1"), csp_of("img-src https://192.0.2.1.test")),
     "csp/loopback-address": (csp_of("img-src http://127.0.0.1:8080"), csp_of("img-src http://localhost:8080")),
@@ -309,8 +312,54 @@ TOLD_ONCE = [
     (asking("connect-src https://api.test/v1 https://api.test/v1/", API + "/v1/cart"), None),
 ]
 
+# Headers with a comma, and the directive that is meant to widen default-src behind it; or None.
+COMMAS = {
+    "default-src 'none'; font-src https://a.test, connect-src https://b.test": "connect-src",
+    "default-src 'none'; font-src https://a.test, connect-src https://b.test; report-uri /csp": "connect-src",
+    "default-src 'self', object-src 'none'; img-src https://b.test; frame-ancestors 'none'": "img-src",
+    "default-src 'none', script-src 'nonce-n1'": "script-src",
+    "img-src https://a.test; font-src https://b.test, default-src 'self'": "img-src",
+    "default-src https:, script-src 'self' 'unsafe-inline'": "script-src",
+    "default-src https:, img-src data:": "img-src",
+    "default-src 'self', object-src 'none'": None, "default-src 'self', upgrade-insecure-requests": None,
+    "default-src 'self', frame-ancestors https://a.test": None,
+    "default-src 'self', script-src 'self' 'nonce-n1' b.test": None,
+    "default-src 'self'; img-src *, img-src https://a.test": None,
+    "default-src 'self', default-src https://a.test": None,
+    "default-src 'self'; report-uri /a, img-src https://a.test; report-uri /b": None,
+    "img-src 'self', font-src https://a.test": None, "default-src *, img-src https://a.test 'self' http:": None,
+    "default-src https:, img-src a.test https://b.test": None,
+    "default-src 'self'; child-src 'self', frame-src https://a.test": None,
+    "default-src 'self'; script-src *, script-src-elem https://a.test": None,
+}
+# Words that end in the name of a directive: where it begins another, what stands before it; else an empty text.
+BEFORE_NAME = {
+    "'none'script-src": "'none'", "'self'STYLE-SRC-ELEM": "'self'", "'nonce-n1'style-src": "'nonce-n1'",
+    "data:font-src": "data:", "https:img-src": "https:", "*img-src": "*", "'self'upgrade-insecure-requests": "'self'",
+    "https://pay.examplestyle-src": "https://pay.example", "fonts.examplefenced-frame-src": "fonts.example",
+    "*.a.testimg-src": "*.a.test", "localhost:3000connect-src": "localhost:3000", "http://localhostimg-src":
+    "http://localhost", "a.test:*report-to": "a.test:*", "https://a.test/lib.jsstyle-src": "https://a.test/lib.js",
+    "upgrade-insecure-requestsimg-src": "upgrade-insecure-requests", "allow-scriptsimg-src": "allow-scripts",
+    "http://10.0.0.1img-src": "http://10.0.0.1", "img-src": "", "https://x.example/img-src": "", "img-src.example": "",
+    "https://cdn.img-src": "", "https://x.example/my-img-src": "", "https://x.example/libimg-src": "",
+    "https://x.example/v1.2/img-src": "", "my-img-src": "", "https://cdnimg-src": "", "https://a.my-media-src": "",
+    "https://a.test/img-src/": "", "a.b_img-src": "", "https://x.example/a?img-src": "", "'img-src'": "",
+}
+
 # Policies with several slips, and what is meant by them.
 MENDED = {
+    "default-src 'none'script-src 'self' https://a.test https://b.teststyle-src 'self'; img-src data:font-src 'self'":
+        "default-src 'none'; script-src 'self' https://a.test https://b.test; style-src 'self'; img-src data:; "
+        "font-src 'self'",
+    "img-src data:image/*; media-src BLOB:https://a.test; font-src https://a.test DATA:font/woff2":
+        "img-src data:; media-src BLOB:; font-src https://a.test DATA:",
+    "default-src 'self' data:image/png": "default-src 'self'",
+    "default-src 'self' data:image/png; script-src 'self' data:text/a": "default-src 'self' data:; script-src 'self'",
+    "default-src 'none'; font-src a.test, img-src b.test, style-src c.test; report-uri /csp":
+        "default-src 'none'; font-src a.test; img-src b.test; style-src c.test; report-uri /csp",
+    "default-src 'none'; img-src a.test, b.test, font-src c.test":
+        "default-src 'none'; img-src a.test b.test; font-src c.test",
+    "upgrade-insecure-requestsimg-src self": "upgrade-insecure-requests; img-src 'self'",
     "default-src self; connect-src 'self' api.test report-uri /csp": "default-src 'self'; connect-src 'self' api.test; "
                                                                      "report-uri /csp",
     "defualt-src none; script-src 'slef' nonce-abc; img-src https://a.test 'none'":

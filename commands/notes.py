@@ -30,7 +30,7 @@ def upgrades(case):
         cause = case.upgrade_of(hop)
         if cause and host_of(hop.asked):
             yield "%s became %s: %s" % (hop.asked, secure(hop.asked), UPGRADES[cause])
-            if cause == "policy" and is_trustworthy(hop.asked):
+            if cause == "policy" and is_trustworthy(hop.asked) and not case.is_plain_socket:
                 yield LOOPBACK % hop.asked
 
 

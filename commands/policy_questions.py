@@ -188,14 +188,23 @@ def difference(question, case):
 
 def not_allowed(text, case, violations, is_blocked, is_reported):
     if is_blocked or not (case.exchanges or case.is_open):  # by another rule, where nothing is sent
-        yield "allowed: expected that %s is let through; it came to %s" % (text, case.result.short())
+        came = refused_by(case) or "it came to " + case.result.short()
+        yield "allowed: expected that %s is let through; %s" % (text, came)
         yield from advised(case, False)
+
+
+def refused_by(case):
+    """The policies that refuse what this engine does not load, with their directives; or an empty text."""
+    refusing = [case.of_violation(one) for one in case.violations if one.enforced and case.is_unloaded]
+    return " and ".join("%s refuses it, by `%s`" % (one.policy, one.directive_text) for one in refusing)
 
 
 def not_blocked(text, case, violations, is_blocked, is_reported):
     if not is_blocked:
-        hint = "; a policy that only reports reports it: `violating` holds of both" if is_reported else ""
-        yield "blocked: expected that a policy refuses %s; it came to %s%s" % (text, case.result.short(), hint)
+        hint = "; one that only reports reports it: `violating` holds of both" if is_reported else ""
+        is_other = case.result.is_refused() and not case.is_open
+        other = "; it came to %s before that" % case.result.short() if is_other else ""
+        yield "blocked: expected that a policy refuses %s; no policy refuses it%s%s" % (text, hint, other)
         yield from () if hint else let_through(case)
 
 

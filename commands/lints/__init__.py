@@ -72,6 +72,8 @@ class Place:
         if node.kind == "object":
             return (node.member("integrity") or node).start
         value = node.items[finding.at].items[0 if finding.is_name else 1]
+        if finding.start is not None:
+            return value.place_of(finding.start)
         part = finding.text and re.search(r'(?<![^\s;,"])%s(?![^\s;,"])' % re.escape(finding.text), value.text)
         return value.start + (part.start() if part else 0)
 

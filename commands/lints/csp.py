@@ -53,18 +53,6 @@ def quoted_value(field):
     return bool(field.policies) and field.policies[0].is_quoted
 
 
-def widened(field):
-    """The directive that would widen the default-src of another policy, where a comma is meant for a semicolon."""
-    if len(field.policies) < 2 or any(len(policy.directives) != 1 for policy in field.policies):
-        return None
-    first = [policy.directives[0] for policy in field.policies]
-    default = next((one for one in first if one.name == "default-src"), None)
-    if default is None:
-        return None
-    return next((one.name for one in first if one.name in grammar.FETCH and one is not default
-                 and any(not word.is_proof and word.lower not in default.texts for word in one.words)), None)
-
-
 HEADERS = [
     Lint("csp/header-misspelt", "a header's name", misspelt_header,
          "`{it.header}` is no header that a browser reads a policy of", "write `{meant}`"),
@@ -74,9 +62,6 @@ HEADERS = [
          "the value begins with a header's name or with HTML, which is no directive", "write the policy alone"),
     Lint("csp/policy-in-quotes", "a policy's header", quoted_value,
          "the whole policy is in quotes, so its first directive is unknown", "write it without them"),
-    Lint("csp/comma-for-semicolon", "a policy's header", widened,
-         "a comma begins another policy, and each must let a request through: `{meant}` does not widen "
-         "`default-src`, which stands in another", "write semicolons between the directives"),
 ]
 
 
@@ -117,7 +102,15 @@ def comma(policy):
     return first is not None and first.follows_comma and not first.is_known and first.written
 
 
+def widening(policy):
+    """The directive that would widen the default-src of another policy, where the comma is meant for a semicolon."""
+    return policy.field.continued.get(policy.number)
+
+
 POLICIES = [
+    Lint("csp/comma-for-semicolon", "a policy", widening,
+         "the comma before `{it.first_name}` begins a policy of its own, and each must let a request through: "
+         "`{meant}` does not widen `default-src`, which stands in another", "write a semicolon for the comma"),
     Lint("csp/does-nothing", "a policy", does_nothing, "nothing in this policy restricts anything",
          "add a directive such as `default-src 'self'`"),
     Lint("csp/report-only-unheard", "a policy", is_unheard,

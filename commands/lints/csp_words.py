@@ -17,7 +17,11 @@ def is_proof_text(text):
 # ---- words of any directive
 
 def missing_semicolon(word):
-    return word.is_directive
+    return word.is_directive and not word.source
+
+
+def name_behind_source(word):
+    return word.is_directive and word.source or None
 
 
 def unknown_sandbox(word):
@@ -67,6 +71,9 @@ WORDS = [
     Lint("csp/semicolon-missing", "a word", missing_semicolon,
          "`{it.text}` stands as a word of `{it.directive.name}`, and is the name of a directive",
          "put a semicolon before `{it.text}`"),
+    Lint("csp/name-behind-source", "a word", name_behind_source,
+         "in `{it.written}` the name of a directive stands right behind `{meant}`",
+         "put a semicolon behind `{meant}`"),
     Lint("csp/sandbox-word", "a word", unknown_sandbox, "`{it.text}` is no word of `sandbox`", "{meant}"),
     Lint("csp/trusted-sink", "a word", unknown_sink, "`{it.text}` is no word of `require-trusted-types-for`",
          "write `'script'`"),
@@ -307,13 +314,24 @@ def local_without_scheme(word):
     return any(origin_of(url) == origin for url in word.asks()) and "http://" + word.text
 
 
-def data_scripts(word):
-    """Where scripts that stand in the page are not let through anyhow."""
-    directive = word.directive
-    is_open = "unsafe-inline" in directive.inner and not directive.has_proof
-    if word.lower != "data:" or "strict-dynamic" in directive.inner or is_open:
+def more_behind_scheme(word):
+    """A scheme that has no host. It is no good for scripts."""
+    found = re.fullmatch(r"((?:data|blob|filesystem|mediastream):)/*[^/].*", word.text, re.I)
+    if not found or word.host is not None:
         return None
-    return directive.name in grammar.SCRIPTS and word.policy.decides("script-src-elem") == directive.name
+    return write("" if found.group(1).lower() == "data:" and opens_scripts(word.directive) else found.group(1))
+
+
+def data_scripts(word):
+    return word.lower == "data:" and opens_scripts(word.directive)
+
+
+def opens_scripts(directive):
+    """Whether a word counts for scripts, and those that stand in the page are not let through anyhow."""
+    is_open = "unsafe-inline" in directive.inner and not directive.has_proof
+    if "strict-dynamic" in directive.inner or is_open:
+        return False
+    return directive.name in grammar.SCRIPTS and directive.policy.decides("script-src-elem") == directive.name
 
 
 def ancestor_path(word):
@@ -353,6 +371,8 @@ URLS = [
          "write `{meant}`"),
     Lint("csp/star-behind-scheme", "a source", star_behind_scheme, "`{it.text}` is a host with any port",
          "write `{meant}`"),
+    Lint("csp/more-behind-scheme", "a source", more_behind_scheme,
+         "`{it.text}` matches nothing: such a scheme stands alone, with its colon", "{meant}"),
     Lint("csp/one-slash", "a source", one_slash, "`{it.text}` is no word: two slashes stand behind the scheme",
          "write `{meant}`"),
     Lint("csp/address", "a source", other_address,

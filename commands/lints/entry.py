@@ -49,8 +49,8 @@ class Lint:
 
 class Finding:
     """What a lint says of a thing, and where that stands: the number of a header or the key of an option, and in
-    `header` the header's name or that key; `text` is the part of the value that it is said of, or None. `url` is that
-    of the document, of what was answered, or of what is asked."""
+    `header` the header's name or that key; `text` is the part of the value that it is said of, or None, and `start` its
+    place there, where it is known. `url` is that of the document, of what was answered, or of what is asked."""
 
     def __init__(self, lint, it, sentence):
         self.lint = lint
@@ -58,6 +58,7 @@ class Finding:
         self.header = it.header
         self.is_name = lint.looks_at == "a header's name"
         self.text = getattr(it, "text", None)
+        self.start = getattr(it, "start", None)
         self.sentence = sentence
         self.url = ""
 

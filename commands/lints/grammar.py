@@ -51,6 +51,34 @@ HOST = re.compile(r"(?:(?P<scheme>[A-Za-z][A-Za-z0-9+.-]*)://)?"
 BYTE = r"(?:[A-Za-z0-9._~!$&'()*+=:@%s-]|%%[0-9A-Fa-f]{2})"
 PATH = re.compile("/(?:%s%s*)?" % (BYTE % "", BYTE % "/"))
 
+# Names of directives that no other word has; one of them at the end of a word; and hosts that end where one may: in a
+# top level, or that of this machine.
+NAMES = tuple(name for name in DIRECTIVES if "-" in name)
+NAME_AT_END = re.compile("(.+?)(%s)" % "|".join(NAMES), re.I)
+WHOLE_HOST = re.compile(r"\*|localhost|\d+(?:\.\d+){3}|.*\.(?:[a-z]{2,}|xn--[a-z0-9-]+)", re.I)
+# Sources that are no hosts: in quotes, schemes; and words of directives that take no sources.
+WHOLE_SOURCE = re.compile(r"'[^']+'|\*|[a-z][a-z0-9+-]*:|%s" % "|".join(SANDBOX + NO_WORDS), re.I)
+
+
+def before_name(word):
+    """What stands in a word before the name of a directive, where both are surely meant and a semicolon is missing; an
+    empty text where the word may be meant as it is."""
+    found = NAME_AT_END.fullmatch(word) if word.lower().endswith(NAMES) else None
+    return found.group(1) if found and is_whole(found.group(1)) else ""
+
+
+def is_whole(source):
+    """Whether a source may end there, and none that goes on with the name of a directive is likely: no top level, no
+    port and no extension of a file ends so."""
+    if WHOLE_SOURCE.fullmatch(source):
+        return True
+    host = HOST.fullmatch(source)
+    if host is None:
+        return False
+    if host.group("path"):
+        return re.search(r"/[^/]*[A-Za-z0-9]\.[A-Za-z0-9]{1,5}$", source) is not None
+    return bool(host.group("port")) or WHOLE_HOST.fullmatch(host.group("host")) is not None
+
 
 def is_digest(algorithm, value):
     """Whether a text may be the digest of an algorithm in base64."""

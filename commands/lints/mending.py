@@ -3,14 +3,15 @@ advised is built on these texts, so that a warning and a change never contradict
 from __future__ import annotations
 
 import base64
+import functools
 import re
 from collections import namedtuple
 
 from commands import csp
 from commands.lints import grammar, lints_of
-from commands.lints.csp import comma, is_web_host, misspelt_header, obsolete_header, widened
+from commands.lints.csp import comma, is_web_host, misspelt_header, obsolete_header
 from commands.lints.entry import DOCUMENT, nearest
-from commands.lints.policies import PASTED, Policy, is_swallowed
+from commands.lints.policies import PASTED, Policy, is_swallowed, pieces
 from commands.lints.reading import Field, Headers, topics_of
 
 LONGEST = 8192  # characters: a header that is longer stays as it is
@@ -71,7 +72,8 @@ WORDS = {
         "scheme-without-colon", "http-on-https", "query-or-fragment", "wildcard-scheme", "wildcard-path",
         "scheme-alone", "star-behind-scheme", "one-slash", "localhost-without-scheme", "ancestor-path",
         "report-over-http")], as_meant),
-    **dict.fromkeys(["csp/" + name for name in ("quote-missing", "unknown-keyword", "sandbox-word", "trusted-word")],
+    **dict.fromkeys(["csp/" + name for name in ("quote-missing", "unknown-keyword", "sandbox-word", "trusted-word",
+                                              "more-behind-scheme")],
                     as_written),
     **dict.fromkeys(["csp/" + name for name in (
         "unsafe-allow-redirects", "nonce-elsewhere", "unsafe-elsewhere", "strict-dynamic-elsewhere", "source-twice",
@@ -193,9 +195,10 @@ def right_name(field):
 
 def of_header(field):
     """Its policies. One behind a comma that is none belongs to the one before, and has no text then."""
-    groups, is_split = [], widened(field) is not None
+    groups = []
     for number, policy in enumerate(field.policies):
         if csp.directives(policy.own_text):
+            is_split = number in field.continued
             if groups and (is_split or comma(policy)):
                 text = groups[-1][1].rstrip(" ;") + joint(policy, is_split) + policy.own_text
                 groups[-1] = groups[-1][0], text, groups[-1][2] + 1
@@ -287,6 +290,27 @@ def split(words):
             parts.append([])
         parts[-1].append(word)
     return parts
+
+
+@functools.lru_cache(256)
+def standing(text, name, is_known):
+    """How a policy's text has a directive: the names of all that stand in one part of it, since semicolons are missing,
+    and that part, where it begins with no directive as it is written; or None."""
+    for part in filter(str.split, text.split(";")):
+        first, *others = [one[0].lower() for one in split([piece.text for piece in pieces(part)])]
+        meant = meant_name(first, part)
+        names = [meant or first, *others]
+        if name in names and (others or meant and not is_known):
+            return names, part.strip() if meant else None
+    return [name], None
+
+
+def meant_name(name, part):
+    """The name of the directive that is meant by one that is none, or is not ASCII."""
+    if name in grammar.DIRECTIVES:
+        return None if part.isascii() else name
+    bare = name.rstrip(":=")
+    return bare if bare in grammar.DIRECTIVES else nearest(name, grammar.SOURCES + grammar.OTHERS)
 
 
 def of_words(directive):

@@ -151,6 +151,7 @@ class Field:
         self.header = name
         self.name = name.lower()
         self.value = value.strip(" \t")
+        self.first = len(value) - len(value.lstrip(" \t"))  # where it begins
         self.topics = topics_of(self.name)
         self.is_policy = self.name in (POLICY, REPORT_ONLY)
         self.kinds = ("a header's name", self.name, "a policy's header")[:3 if self.is_policy else 2]
@@ -169,11 +170,20 @@ class Field:
     def items(self):
         return [item.strip(" \t") for item in self.value.split(",") if item.strip(" \t")]
 
+    @functools.cached_property
+    def continued(self):
+        """The policies behind a comma that is meant for a semicolon."""
+        from commands.lints.policies import continued
+        return continued(self.policies)
+
     def read_policies(self):
         """Those that have a directive; the empty one where none has."""
         from commands.lints.policies import Policy  # where there is one
-        parts = [part for part in self.value.split(",") if part.strip(" \t;")] or [""]
-        return [Policy(self, number, part) for number, part in enumerate(parts)]
+        parts, start = [], self.first
+        for part in self.value.split(","):
+            parts += [(part, start)] if part.strip(" \t;") else []
+            start += len(part) + 1
+        return [Policy(self, number, *part) for number, part in enumerate(parts or [("", self.first)])]
 
 
 class Options:
