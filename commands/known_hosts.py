@@ -68,7 +68,7 @@ class Book:
     def __init__(self, hosts, by_site):
         self.hosts = ChainMap({}, hosts)
         self.by_site = ChainMap({}, by_site)
-        self.ignored = {}
+        self.ignored = {}  # the scheme, the first field, and how many there were
         self.never = set()  # hosts whose answer said max-age=0, though they were not known
 
     def reasons(self, case):
@@ -97,9 +97,9 @@ class Book:
     def look_at_fields(self, case):
         noted = {event.words[0] for event in case.fetch.of("call") if event.op == "note"}
         for request, answer in case.exchanges:
-            value = answer.head.get(FIELD) if answer and answer.head else None
-            if value is not None and host_of(request.origin) not in noted:
-                self.ignored[host_of(request.origin)] = (scheme_of(request.origin), value)
+            values = answer.head.values(FIELD) if answer and answer.head else []
+            if values and host_of(request.origin) not in noted:
+                self.ignored[host_of(request.origin)] = (scheme_of(request.origin), values[0], len(values))
 
     def reason(self, case, hop):
         host = host_of(hop.asked)
@@ -149,8 +149,10 @@ class Book:
         name = next((name for name in names if name in self.ignored), None)
         if name is None:
             return ""
-        scheme, value = self.ignored[name]
+        scheme, value, count = self.ignored[name]
         if scheme == "http":
             return "the %s of %s came over http, where it is ignored" % (FIELD, name)
         value = value if len(value) <= LONGEST else value[:LONGEST] + ".."
-        return "the %s of %s is ignored: `%s`" % (FIELD, name, value)
+        which = "the %s of %s" % (FIELD, name) if count == 1 else "the first %s of %s, which alone counts of %d," % (
+            FIELD, name, count)
+        return "%s is ignored: `%s`" % (which, value)

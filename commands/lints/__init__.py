@@ -95,10 +95,12 @@ def without_repeats(found):
 
 def places(scenario, budget):
     asks = list(map(asks_of, scenario.documents()))
+    known = [(one["host"], one["subdomains"]) for one in scenario.data.get("hsts", []) if one["until"]]
     for number, document in enumerate(scenario.documents()):
         path = ["documents", number]
         if "headers" in document:
-            headers = Headers(DOCUMENT, document["headers"], document["url"], asks_of_policies(scenario, number))
+            own = asks_of_policies(scenario, number)
+            headers = Headers(DOCUMENT, document["headers"], document["url"], own, known=known)
             yield Place([*path, "headers"], headers.things(budget), document["url"])
         yield from command_places(document, path, budget)
     yield from answer_places(scenario, [ask for own in asks for ask in own], budget)
