@@ -224,7 +224,7 @@ BEFORE_SENDING = UNLOADED + [
     Way("scheme/other", "1", always, "the URL's scheme is `{c.scheme}`, and neither http nor https: a browser refuses it too", "",
         "ask for an http or https URL", FETCH),
     Way("port/bad", "2", always, "browsers block the port {c.port} of {c.url}{c.where}", "",
-        "let the server listen at another port, such as 443, 8080 or 8443: {change}",
+        "let the server listen at another port{c.over_https}, such as 443, 8080 or 8443: {change}",
         "mixed-content.md#bad-ports-fetch-section-29-port-blocking", changes.other_port),
     Way("mixed/ip-address", "3", lambda c: c.is_upgradeable_address,
         "the page is secure, and {c.url}{c.where} is not: images, audio and video become https by themselves, but not where "

@@ -118,8 +118,10 @@ class Book:
 
     @staticmethod
     def of_order(case, hop):
-        """The host is known, and the URL was refused before that was looked up."""
-        first = LOOKED_AT_FIRST.get(case.result.number) if hop.origin is None and not case.result.is_fault else None
+        """The host is known, and the URL was refused before that was looked up. At a good port a secure page's would be
+        refused as mixed content."""
+        is_looked_up = hop.origin is not None or case.result.is_fault or (case.result.number == 2 and case.is_secure)
+        first = None if is_looked_up else LOOKED_AT_FIRST.get(case.result.number)
         return "its host is a known one (HSTS), but %s looked at first" % first if first else ""
 
     def of_parent(self, names, now):
