@@ -275,11 +275,14 @@ ONCE = {
         scenario(script(url="http://cdn.test/a.js"), [rule(path="/a.js")], "http://cdn.test"),
         "ask for https://cdn.test/a.js, and add a server https://cdn.test; or serve the page"),
     "mixed content, and no server": (
-        scenario(script(url="http://cdn.test/a.js")), "ask for https://cdn.test/a.js, and add a server https://cdn.test;"),
+        scenario(script(url="http://cdn.test/a.js")),
+        "ask for https://cdn.test/a.js, and add a server https://cdn.test;"),
 }
 OTHERS = {
     "mixed content of another origin, and a server of http alone": scenario(
         fetch("http://api.test/x", **PUT), [asked(204, OK), rule(200)], "http://api.test"),
+    "another origin, and a server of http alone": scenario(fetch(), [rule()], "http://api.test"),
+    "an image, and a server of http alone": scenario(load("image", API + "/i.png"), [rule()], "http://api.test"),
     "mixed content of another origin, and no server": scenario(fetch("http://api.test/x")),
     "an answer behind a preflight": scenario(fetch(**PUT), [rule(204, [OK, methods("PUT")], method="OPTIONS"), rule()]),
     "a star for a request with a cookie": scenario(

@@ -287,12 +287,13 @@ class Case:
                      self.head if is_asked else None, self.own_head, is_asked, self.varies)
 
     @property
-    def lacking_over_https(self):
-        """What CORS will want of the scenario's answers over https, where that is asked for in the place of mixed content.
-        A server that is to be added answers as another one of its host."""
-        url, options = secure(self.url), self.command.options
+    def lacking_behind(self):
+        """What CORS will want of the scenario's answers, where https is asked for in the place of mixed content, or a
+        server is added: that one answers as another one of its host."""
+        url, options = secure(self.url) if self.result.number == 3 else self.asked_url, self.command.options
         is_of_cors = options["mode"] == "cors" and origin_of(url) != self.page_origin
-        if self.chain or self.is_net or not is_of_cors:
+        is_unknown = self.result.number == 25 and self.scenario.server_like(origin_of(url)) is None
+        if self.is_redirected or self.is_net or not is_of_cors or is_unknown:
             return []
         method = guards.normalised(options["method"])
         names = guards.unsafe_names(guards.kept(self.command.headers, "cors"))

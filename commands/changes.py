@@ -71,7 +71,7 @@ def other_port(c):
 
 
 def good_url(c, url):
-    """The URL at a port that browsers do not block: one where the scenario answers, else one where it has no server yet."""
+    """The URL at a port that browsers do not block: one where the scenario answers, else one where it has no server."""
     parts = urlsplit(url)
     host = parts.netloc.rpartition("@")[2].rpartition(":")[0]
     urls = [parts._replace(netloc=host + port).geturl() for port in GOOD_PORTS[parts.scheme]]

@@ -532,7 +532,7 @@ class Explanation:
         self.exposing = changes.expose_too(c) if is_of_cors else []
         lines = c.needs_told.lines() if is_asked else []
         self.in_all = lines + [exposed(edit, c.own_head is None) for edit in self.exposing]
-        self.in_all += c.lacking_over_https if way in MIXED_CONTENT else []
+        self.in_all += c.lacking_behind if way in MIXED_CONTENT or way.name == "head/no-server" else []
 
     def lines(self):
         """As it stands between the lines of a play."""

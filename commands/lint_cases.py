@@ -288,7 +288,8 @@ HSTS_PRELOADED = {
 }
 # What is said of the fields of a page: its URL, their values, and the lints, without which a browser notes the host.
 HSTS_PAGES = [
-    (PAGE + "/", [YEAR], ["hsts/on-the-page"]), (PAGE + "/", [YEAR, "max-age=0"], ["hsts/on-the-page", "hsts/sent-twice"]),
+    (PAGE + "/", [YEAR], ["hsts/on-the-page"]),
+    (PAGE + "/", [YEAR, "max-age=0"], ["hsts/on-the-page", "hsts/sent-twice"]),
     (PAGE + "/", ["max-age=0"], []), (PAGE + "/", ["max-age=0", YEAR], ["hsts/sent-twice"]),
     (PAGE + "/", ["max-age='600'"], ["hsts/max-age-quotes"]),
     (PAGE + "/", ["includeSubDomains", YEAR], ["hsts/max-age-missing", "hsts/sent-twice"]),

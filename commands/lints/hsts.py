@@ -5,8 +5,8 @@ import re
 from collections import namedtuple
 
 from commands.lints.entry import ANSWER, DOCUMENT, Lint, nearest
-from commands.lints.hsts_values import (FIELD, KNOWN, MONTH, QUOTES, SPELT, YEAR, age_of, amount_in, amount_of, as_unicode,
-                                        has, is_ignored, names, parts, raw_age, readable, seconds, whole)
+from commands.lints.hsts_values import (FIELD, KNOWN, MONTH, QUOTES, SPELT, YEAR, age_of, amount_in, amount_of,
+                                        as_unicode, has, is_ignored, names, parts, raw_age, seconds, whole)
 from commands.lints.reading import is_address
 
 HEADER = "Strict-Transport-Security"
@@ -240,7 +240,7 @@ TABLE = [Lint(one.name, HEADER, said_as(one.name), IGNORED + one.wrong, one.fix)
     Lint("hsts/on-an-address", HEADER, of_address,
          IGNORED + "{meant} is an IP address, and none is ever a known host", "ask by a domain; or leave it out"),
     Lint("hsts/on-localhost", HEADER, of_localhost,
-         IGNORED + "{meant} is a name of localhost, and no http URL of one is upgraded by a known host",
+         IGNORED + "{meant} is this machine, and no name of localhost is ever a known host",
          "ask by another domain; or leave it out", is_note=True),
     Lint("hsts/preload-without-subdomains", HEADER, preload_alone,
          "the list of preloaded hosts takes none without includeSubDomains", "write `{meant}`; or take `preload` out"),

@@ -1,4 +1,4 @@
-"""What a value of Strict-Transport-Security says (docs/rules/hsts.md), and what was meant by one that browsers ignore."""
+"""What a value of Strict-Transport-Security says (docs/rules/hsts.md), and what was meant by one that is ignored."""
 import functools
 import math
 import re
@@ -15,10 +15,13 @@ FIELD = re.compile(PART + "(?:;" + PART + ")*")
 PIECE = re.compile(r'(?:[^;"]|"(?:[^"\\]|\\.)*"|")+')  # one directive; a quote that does not close is a sign
 QUOTES = "\"'`\u2018\u2019\u201a\u201c\u201d\u201e\u00ab\u00bb"
 UNITS = {
-    **dict.fromkeys(["s", "sec", "secs", "second", "seconds"], 1), **dict.fromkeys(["ms", "msec", "milliseconds"], 0.001),
-    **dict.fromkeys(["m", "min", "mins", "minute", "minutes"], 60), **dict.fromkeys(["h", "hr", "hrs", "hour", "hours"], 3600),
+    **dict.fromkeys(["ms", "msec", "milliseconds"], 0.001),
+    **dict.fromkeys(["s", "sec", "secs", "second", "seconds"], 1),
+    **dict.fromkeys(["m", "min", "mins", "minute", "minutes"], 60),
+    **dict.fromkeys(["h", "hr", "hrs", "hour", "hours"], 3600),
     **dict.fromkeys(["d", "day", "days"], 86400), **dict.fromkeys(["w", "week", "weeks"], 604800),
-    **dict.fromkeys(["mo", "mon", "month", "months"], MONTH), **dict.fromkeys(["y", "yr", "yrs", "year", "years"], YEAR),
+    **dict.fromkeys(["mo", "mon", "month", "months"], MONTH),
+    **dict.fromkeys(["y", "yr", "yrs", "year", "years"], YEAR),
 }
 # A number as people write it: a product, hexadecimal, with signs between its thousands, or with a fraction.
 AMOUNT = re.compile(
@@ -26,8 +29,8 @@ AMOUNT = re.compile(
     r"|\d+(?:\.\d+)?(?:e\d{1,2}(?!\d))?)(?:\s*([a-z]+)(?![\w=-]))?", re.I)
 AGE = re.compile(r"max[-_ ]?age[%s]*\s*[=:]?[\s%s]*" % (QUOTES, QUOTES), re.I)
 LONGEST = 15  # digits of a number that is converted
-# What was meant by a max-age: its text, its seconds as a text, those of months where `m` may be that, or None, and whether
-# it has a unit.
+# What was meant by a max-age: its text, its seconds as a text, those of months where `m` may be that, or None, and
+# whether it has a unit.
 Amount = namedtuple("Amount", "text seconds months has_unit")
 
 
