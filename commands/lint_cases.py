@@ -277,7 +277,8 @@ HSTS_MEANT = [
     ("max-age=+600", "max-age=600"), ("max-age=0x10", "max-age=16"), ("max-age=6e2", "max-age=600"),
     ("max-age=60*60*24*365", YEAR), ("max-age=0x" + "f" * 9000, YEAR), ("max-age=a", YEAR),
     ("max-age=600; max-age=600", "max-age=600"), ("max-age=600; max-age=0", "max-age=600", "max-age=0"),
-    ("max-age=600; max-age=1y; preload", "max-age=600; preload", "max-age=31536000; preload"),
+    ("max-age=600; max-age=1y; includeSubDomains", "max-age=600; includeSubDomains",
+     "max-age=31536000; includeSubDomains"),
     ("includeSubDomains; includeSubDomains; max-age=600", "max-age=600; includeSubDomains"),
 ]
 # The same of what is not ignored, and is not taken into the list of preloaded hosts (a year, and all subdomains).

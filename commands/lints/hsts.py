@@ -195,17 +195,22 @@ def preloaded(age):
     return "max-age=%s; includeSubDomains; preload" % age
 
 
+def to_preload(field):
+    """The value as it is meant, where it is to be preloaded; else an empty text."""
+    value = whole(field.value) if is_ignored(field.value) else field.value
+    return value if field.is_first and has(value, "preload") else ""
+
+
 def preload_alone(field):
-    age = seconds(field.value) if counts(field) and has(field.value, "preload") else None
-    is_alone = age is not None and age >= YEAR and not has(field.value, "includesubdomains")
-    return is_alone and preloaded(age_of(field.value))
+    value = to_preload(field)
+    is_alone = value and seconds(value) >= YEAR and not has(value, "includesubdomains")
+    return preloaded(age_of(value)) if is_alone else None
 
 
 def preload_short(field):
-    age = seconds(field.value) if counts(field) and has(field.value, "preload") else None
-    is_alone = not has(field.value, "includesubdomains")
-    is_short = age is not None and 0 < age < YEAR
-    return is_short and Meant("", preloaded(YEAR), ", nor without includeSubDomains" if is_alone else "")
+    value = to_preload(field)
+    other = "" if has(value, "includesubdomains") else ", nor without includeSubDomains"
+    return Meant("", preloaded(YEAR), other) if value and 0 < seconds(value) < YEAR else None
 
 
 def zero_with_more(field):
