@@ -5,14 +5,14 @@ import re
 from collections import namedtuple
 
 from commands.lints.entry import ANSWER, DOCUMENT, Lint, nearest
-from commands.lints.hsts_values import (FIELD, KNOWN, MONTH, QUOTES, SPELT, YEAR, age_of, amount_in, amount_of,
-                                        as_unicode, has, is_ignored, names, parts, raw_age, seconds, whole)
+from commands.lints.hsts_values import (FIELD, KNOWN, MONTH, QUOTED, QUOTES, SPELT, YEAR, age_of, amount_in, amount_of,
+                                        as_unicode, changed_quoted, has, is_ignored, names, parts, raw_age, seconds,
+                                        whole)
 from commands.lints.reading import is_address
 
 HEADER = "Strict-Transport-Security"
 LATE = 9999999999  # a second of the year 2286
 TYPOGRAPHIC = "[%s]" % QUOTES.strip("\"'`")
-QUOTED = re.compile(r'"(?:[^"\\]|\\.)*"')
 # The text of a value, and the whole value as it was meant; and what else is said of some.
 Meant = namedtuple("Meant", "text whole other", defaults=[""])
 
@@ -44,7 +44,7 @@ def with_colon(value):
 
 
 def with_comma(value):
-    return "," in QUOTED.sub("", value) and whole(value)
+    return "," in changed_quoted(value, lambda text: "") and whole(value)
 
 
 def age_misspelt(value):
@@ -64,8 +64,9 @@ def twice(value):
     name = next((name for index, name in enumerate(own[:64]) if name in own[:index]), None)
     if name is None:
         return None
-    ages = [amount_in((text or "").strip(QUOTES)) for one, text in parts(value) if one == "max-age"]
-    wholes = list(dict.fromkeys(whole(value, age.seconds) for age in ages if age)) or [whole(value)]
+    ages = [amount_in((text or "").strip(QUOTES)) for one, text in parts(value)[:64] if one == "max-age"]
+    different = dict.fromkeys(age.seconds for age in ages if age)
+    wholes = [whole(value, age) for age in different] or [whole(value)]
     return Meant(SPELT.get(name, name), wholes[0], ", or `%s`, as it is meant" % wholes[1] if len(wholes) > 1 else "")
 
 

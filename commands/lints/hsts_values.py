@@ -12,7 +12,8 @@ YEAR, MONTH, MOST = 31536000, 2592000, 4294967295
 TOKEN = r"[!#$%&'*+\-.^_`|~0-9A-Za-z]+"
 PART = r"[ \t]*(?:%s[ \t]*(?:=[ \t]*(?:%s|\"(?:[^\"\\]|\\.)*\")[ \t]*)?)?" % (TOKEN, TOKEN)
 FIELD = re.compile(PART + "(?:;" + PART + ")*")
-PIECE = re.compile(r'(?:[^;"]|"(?:[^"\\]|\\.)*"|")+')  # one directive; a quote that does not close is a sign
+QUOTED = re.compile(r'"(?:[^"\\]|\\.)*"')
+CLOSED = re.compile(r'(?:[^"]+|"(?:[^"\\]|\\.)*")*')  # up to a quote that does not close, behind which none does
 QUOTES = "\"'`\u2018\u2019\u201a\u201c\u201d\u201e\u00ab\u00bb"
 UNITS = {
     **dict.fromkeys(["ms", "msec", "milliseconds"], 0.001),
@@ -36,12 +37,18 @@ Amount = namedtuple("Amount", "text seconds months has_unit")
 
 # ---- what it says
 
+def changed_quoted(value, change):
+    """The text with `change(quoted)` in the place of each quoted string. A quote that does not close is a sign."""
+    end = CLOSED.match(value).end()
+    return QUOTED.sub(lambda found: change(found.group()), value[:end]) + value[end:]
+
+
 @functools.lru_cache(64)
 def parts(value):
     """The directives as pairs of a name in lower case and a value, or None where there is no equals sign."""
     found = []
-    for text in filter(str.strip, PIECE.findall(value)):
-        name, sign, own = text.partition("=")
+    for text in filter(str.strip, changed_quoted(value, lambda text: text.replace(";", "\0")).split(";")):
+        name, sign, own = text.replace("\0", ";").partition("=")
         found.append((name.strip().lower(), own.strip() if sign else None))
     return found
 
@@ -135,6 +142,7 @@ def amount_of(value):
     return amount or next(filter(None, (amount_in(own.strip(QUOTES)) for own in near)), None)
 
 
+@functools.lru_cache(64)
 def more_of(value):
     """The other directives that were meant."""
     words = [word.lower() for word in re.findall(r"[A-Za-z_-]+", readable(value))[:64]]

@@ -75,8 +75,11 @@ class Headers:
         self.is_real = is_real
         self.known = known
         self.by_name = {}
-        for name, value in pairs:
+        self.first, self.last = {}, {}  # the number of the first header of a name, and of the last
+        for at, (name, value) in enumerate(pairs):
             self.by_name.setdefault(name.lower(), []).append(value)
+            self.first.setdefault(name.lower(), at)
+            self.last[name.lower()] = at
 
     def values(self, name):
         return self.by_name.get(name.lower(), [])
@@ -159,12 +162,12 @@ class Field:
     @property
     def is_first(self):
         """Whether no other header of this name comes before it."""
-        return not any(name.lower() == self.name for name, _ in self.headers.pairs[:self.at])
+        return self.headers.first.get(self.name, self.at) >= self.at
 
     @property
     def is_last(self):
         """Whether no other header of this name comes behind it."""
-        return not any(name.lower() == self.name for name, _ in self.headers.pairs[self.at + 1:])
+        return self.headers.last.get(self.name, self.at) <= self.at
 
     @property
     def count(self):
