@@ -225,6 +225,10 @@ HOSTS = {
         hsts=[{"host": "api.shop.test", "subdomains": True, "until": 10}]),
     "mixed content beside a known host": scenario(
         fetch("http://api.shop.test/x"), [rule(200, [OK])], "https://api.shop.test", hsts=KNOWN["hsts"]),
+    "two fields, of which the first is ignored": scenario(
+        [load("image", PAGE + "/i.png"), fetch("http://shop.test/x")],
+        [rule(200, [["Strict-Transport-Security", "includeSubDomains"], ["Strict-Transport-Security", "max-age=600"]])],
+        PAGE, page=PLAIN, servers=[{"origin": "http://shop.test", "rules": [rule(200)]}]),
     "a host that is forgotten": scenario(
         [load("image", PAGE + "/i.png"), fetch("/x")], [rule(200, [["Strict-Transport-Security", "max-age=0"]])], PAGE,
         page=PLAIN, hsts=KNOWN["hsts"], servers=[{"origin": "http://shop.test", "rules": [rule(200)]}]),
@@ -243,7 +247,49 @@ HOSTS = {
         fetch("http://127.0.0.1:8080/x"), [rule(200, [OK])], "https://127.0.0.1:8080",
         headers=[[POLICY, "upgrade-insecure-requests"]]),
 }
+BLOCKED = "http://shop.test:6667"
+# Bad ports, and mixed content, which one change mends; of each a part of that.
+ONCE = {
+    "an image of a secure page at a bad port": (
+        scenario(load("image", BLOCKED + "/i.png"), [rule()], BLOCKED),
+        "listen at another port over https, such as 443, 8080 or 8443: ask for https://shop.test:8443/i.png, and add a "
+        "server https://shop.test:8443\n"),
+    "a script of a known host at a bad port": (
+        scenario(script(url=BLOCKED + "/a.js"), [rule()], BLOCKED, hsts=KNOWN["hsts"]),
+        "ask for https://shop.test:8443/a.js, and add a server https://shop.test:8443\n"),
+    "a bad port, and a policy that upgrades": (
+        scenario(load("image", BLOCKED + "/i.png"), [rule()], BLOCKED, page=PLAIN,
+                 headers=[[POLICY, "upgrade-insecure-requests"]]),
+        "ask for https://shop.test:8443/i.png, and add"),
+    "a bad port of a known host": (
+        scenario(load("image", BLOCKED + "/i.png"), [rule()], BLOCKED, **KNOWN),
+        "ask for https://shop.test:8443/i.png, and add"),
+    "a bad port of a page of http": (
+        scenario(load("image", BLOCKED + "/i.png"), [rule()], BLOCKED, page=PLAIN),
+        "listen at another port, such as 443, 8080 or 8443: ask for http://shop.test:8080/i.png, and add a server "
+        "http://shop.test:8080\n"),
+    "a bad port of this machine": (
+        scenario(load("image", "http://127.0.0.1:6667/i.png"), [rule()], "http://127.0.0.1:6667"),
+        "ask for http://127.0.0.1:8080/i.png, and add"),
+    "a bad port, and a good one that answers": (
+        scenario(load("image", BLOCKED + "/i.png"), [rule()], BLOCKED, **at(PAGE, rule(200, path="/i.png"))),
+        "ask for https://shop.test/i.png\n"),
+    "a bad port, and a good one without a rule": (
+        scenario(load("image", BLOCKED + "/i.png"), [rule()], BLOCKED, **at(PAGE + ":8443", rule(200, path="/x"))),
+        "ask for https://shop.test/i.png, and add a server https://shop.test\n"),
+    "mixed content, and a server of http alone": (
+        scenario(script(url="http://cdn.test/a.js"), [rule(path="/a.js")], "http://cdn.test"),
+        "ask for https://cdn.test/a.js, and add a server https://cdn.test; or serve the page"),
+    "mixed content, and no server": (
+        scenario(script(url="http://cdn.test/a.js")),
+        "ask for https://cdn.test/a.js, and add a server https://cdn.test;"),
+}
 OTHERS = {
+    "mixed content of another origin, and a server of http alone": scenario(
+        fetch("http://api.test/x", **PUT), [asked(204, OK), rule(200)], "http://api.test"),
+    "another origin, and a server of http alone": scenario(fetch(), [rule()], "http://api.test"),
+    "an image, and a server of http alone": scenario(load("image", API + "/i.png"), [rule()], "http://api.test"),
+    "mixed content of another origin, and no server": scenario(fetch("http://api.test/x")),
     "an answer behind a preflight": scenario(fetch(**PUT), [rule(204, [OK, methods("PUT")], method="OPTIONS"), rule()]),
     "a star for a request with a cookie": scenario(
         fetch(**JSON, **INCLUDE), [rule(404, method="OPTIONS"), rule(200, [STAR])]),
@@ -418,3 +464,5 @@ def scripted():
     """Each by its name."""
     for group in (PREFLIGHTS, CORS, CHAINS, POLICIES, HOSTS, OTHERS):
         yield from group.items()
+    for name, (data, _) in ONCE.items():
+        yield name, data

@@ -174,6 +174,15 @@ def scripted(scenario, request):
     return scenario.answers[server, index]
 
 
+def scripted_like(scenario, request):
+    """The same, where an origin without a server had one like another (`server_like`)."""
+    server = scenario.server_like(request.origin)
+    if server is None:
+        return Answer(data_of({"status": 200}))
+    request.origin = scenario.servers()[server]["origin"]
+    return scripted(scenario, request)
+
+
 def bytes_of(scenario, server, index):
     if server is None:
         return b""

@@ -324,16 +324,17 @@ class Case:
                      self.head if is_asked else None, self.own_head, is_asked, self.varies)
 
     @property
-    def lacking_over_https(self):
-        """What CORS will want of the scenario's answers over https, where that is asked for in the place of mixed
-        content."""
-        url, options = secure(self.url), self.command.options
+    def lacking_behind(self):
+        """What CORS will want of the scenario's answers, where https is asked for in the place of mixed content, or a
+        server is added: that one answers as another one of its host."""
+        url, options = secure(self.url) if self.result.number == 3 else self.asked_url, self.command.options
         is_of_cors = options["mode"] == "cors" and origin_of(url) != self.page_origin
-        if self.chain or self.is_net or not is_of_cors or self.scenario.server_of(origin_of(url)) is None:
+        is_unknown = self.result.number == 25 and self.scenario.server_like(origin_of(url)) is None
+        if self.is_redirected or self.is_net or not is_of_cors or is_unknown:
             return []
         method = guards.normalised(options["method"])
         names = guards.unsafe_names(guards.kept(self.command.headers, "cors"))
-        asked, own = (answers.scripted(self.scenario, Request(url, one)).head for one in ("OPTIONS", method))
+        asked, own = (answers.scripted_like(self.scenario, Request(url, one)).head for one in ("OPTIONS", method))
         needs = Needs(url, self.page_origin, self.includes, method, names, asked, own, self.has_listener)
         return needs.lacking() if own else []
 
@@ -989,6 +990,17 @@ class Case:
     def but_known(self):
         """That its host is known, where the URL was refused before that was looked up."""
         return "; " + self.stays_plain if self.stays_plain.startswith("its host is") else ""
+
+    @property
+    def is_to_be_secure(self):
+        """Whether its URL of http became one of https, would behind the check that refused it, or may be no other."""
+        is_mixed = self.is_secure and not is_trustworthy(self.url)
+        is_upgraded = self.upgrade_of(self.hops[-1]) is not None or self.but_known != ""
+        return self.scheme == "http" and (is_mixed or is_upgraded)
+
+    @property
+    def over_https(self):
+        return " over https" if self.is_to_be_secure else ""
 
     @property
     def why_scheme(self):

@@ -6,11 +6,13 @@ import re
 from urllib.parse import unquote, urlsplit
 
 from commands import answers, csp, edits, guards
-from commands.case import Violation
+from commands.case import Request, Violation
 from commands.needs import EXPOSE_HEADERS, TOKEN, Needs, merged
 from commands.play_text import is_preflight
 from commands.scenario import joined, origin_of
 from commands.urls import host_of, is_trustworthy, scheme_of, secure, without_user_info
+
+GOOD_PORTS = {"https": (":8443", "", ":8080"), "http": (":8080", "", ":8000")}
 
 
 def nothing(c):
@@ -41,13 +43,18 @@ def lead_to(url, c):
     return [edits.answer(request.method, c.whole(request), "Location", url)]
 
 
-def ask_secure(c):
-    return [lead_to(secure(c.url), c)]
+def missing_server(c, url, rules=None):
+    """A server for a URL, where the scenario has none."""
+    origin = origin_of(url)
+    is_there = c.is_net or c.scenario.server_of(origin) is not None
+    return [] if is_there else [edits.server(origin, rules or c.scenario.rules_like(origin))]
 
 
 def ask_secure_or_upgrade(c):
     """Or the page has all its URLs upgraded, which says nothing against a server without https."""
-    return ask_secure(c) + [[edits.upgrade_policy()]]
+    url = secure(c.url)
+    server = missing_server(c, url)
+    return [lead_to(url, c) + server, [edits.upgrade_policy(), *server]]
 
 
 def with_scheme(c):
@@ -56,13 +63,24 @@ def with_scheme(c):
 
 
 def other_port(c):
-    parts = urlsplit(c.url)
-    host = parts.netloc.rpartition("@")[2].rpartition(":")[0]
-    origin = "%s://%s:%d" % (parts.scheme, host, 8443 if parts.scheme == "https" else 8080)
+    """Another port, over https where the URL would become one of https, or may be no other."""
     number = c.scenario.server_of(c.url_origin)
-    rules = [] if number is None else c.scenario.servers()[number]["rules"]
-    server = [] if c.is_net else [edits.server(origin, rules)]
-    return [server + lead_to(joined(c.url, "").replace(c.url_origin, origin, 1), c)]
+    rules = None if number is None else c.scenario.servers()[number]["rules"]
+    url = good_url(c, secure(c.url) if c.is_to_be_secure else c.url)
+    return [lead_to(url, c) + missing_server(c, url, rules)]
+
+
+def good_url(c, url):
+    """The URL at a port that browsers do not block: one where the scenario answers, else one where it has no server."""
+    parts = urlsplit(url)
+    host = parts.netloc.rpartition("@")[2].rpartition(":")[0]
+    urls = [parts._replace(netloc=host + port).geturl() for port in GOOD_PORTS[parts.scheme]]
+    if c.is_net:
+        return next((one for one in urls if c.scenario.route_of(origin_of(one))), urls[0])
+    servers = [(one, c.scenario.server_of(origin_of(one))) for one in urls]
+    answering = [one for one, server in servers
+                 if server is not None and c.scenario.rule_of(server, Request(one, c.method)) is not None]
+    return [*answering, *(one for one, server in servers if server is None), *urls][0]
 
 
 # ---- CORS
@@ -433,10 +451,7 @@ def greater_limit(c):
 
 
 def a_server(c):
-    """A server of the origin, with the rules of one of its host."""
-    near = c.scenario.origins_by_host.get(host_of(c.request.origin))
-    rules = c.scenario.servers()[c.scenario.server_of(near[0])]["rules"] if near else [{"status": 200}]
-    return [[edits.server(c.request.origin, rules)]]
+    return [[edits.server(c.request.origin, c.scenario.rules_like(c.request.origin))]]
 
 
 def mended_head(c):

@@ -225,7 +225,7 @@ BEFORE_SENDING = UNLOADED + [
     Way("scheme/other", "1", always, "the URL's scheme is `{c.scheme}`, and neither http nor https: a browser refuses it too", "",
         "ask for an http or https URL", FETCH),
     Way("port/bad", "2", always, "browsers block the port {c.port} of {c.url}{c.where}", "",
-        "let the server listen at another port, such as 443, 8080 or 8443: {change}",
+        "let the server listen at another port{c.over_https}, such as 443, 8080 or 8443: {change}",
         "mixed-content.md#bad-ports-fetch-section-29-port-blocking", changes.other_port),
     Way("mixed/ip-address", "3", lambda c: c.is_upgradeable_address,
         "the page is secure, and {c.url}{c.where} is not: images, audio and video become https by themselves, but not where "
@@ -533,7 +533,7 @@ class Explanation:
         self.exposing = changes.expose_too(c) if is_of_cors else []
         lines = c.needs_told.lines() if is_asked else []
         self.in_all = lines + [exposed(edit, c.own_head is None) for edit in self.exposing]
-        self.in_all += c.lacking_over_https if way in MIXED_CONTENT else []
+        self.in_all += c.lacking_behind if way in MIXED_CONTENT or way.name == "head/no-server" else []
 
     def reasons(self):
         """As it stands between the lines of a play, without what to change."""

@@ -68,7 +68,7 @@ class Book:
     def __init__(self, hosts, by_site):
         self.hosts = ChainMap({}, hosts)
         self.by_site = ChainMap({}, by_site)
-        self.ignored = {}
+        self.ignored = {}  # the scheme, the first field, and how many there were
         self.never = set()  # hosts whose answer said max-age=0, though they were not known
 
     def reasons(self, case):
@@ -97,9 +97,9 @@ class Book:
     def look_at_fields(self, case):
         noted = {event.words[0] for event in case.fetch.of("call") if event.op == "note"}
         for request, answer in case.exchanges:
-            value = answer.head.get(FIELD) if answer and answer.head else None
-            if value is not None and host_of(request.origin) not in noted:
-                self.ignored[host_of(request.origin)] = (scheme_of(request.origin), value)
+            values = answer.head.values(FIELD) if answer and answer.head else []
+            if values and host_of(request.origin) not in noted:
+                self.ignored[host_of(request.origin)] = (scheme_of(request.origin), values[0], len(values))
 
     def reason(self, case, hop):
         host = host_of(hop.asked)
@@ -118,8 +118,10 @@ class Book:
 
     @staticmethod
     def of_order(case, hop):
-        """The host is known, and the URL was refused before that was looked up."""
-        first = LOOKED_AT_FIRST.get(case.result.number) if hop.origin is None and not case.result.is_fault else None
+        """The host is known, and the URL was refused before that was looked up. At a good port a secure page's would be
+        refused as mixed content."""
+        is_looked_up = hop.origin is not None or case.result.is_fault or (case.result.number == 2 and case.is_secure)
+        first = None if is_looked_up else LOOKED_AT_FIRST.get(case.result.number)
         return "its host is a known one (HSTS), but %s looked at first" % first if first else ""
 
     def of_parent(self, names, now):
@@ -149,8 +151,10 @@ class Book:
         name = next((name for name in names if name in self.ignored), None)
         if name is None:
             return ""
-        scheme, value = self.ignored[name]
+        scheme, value, count = self.ignored[name]
         if scheme == "http":
             return "the %s of %s came over http, where it is ignored" % (FIELD, name)
         value = value if len(value) <= LONGEST else value[:LONGEST] + ".."
-        return "the %s of %s is ignored: `%s`" % (FIELD, name, value)
+        which = "the %s of %s" % (FIELD, name) if count == 1 else "the first %s of %s, which alone counts of %d," % (
+            FIELD, name, count)
+        return "%s is ignored: `%s`" % (which, value)

@@ -10,8 +10,9 @@ UPGRADES = {
 }
 # As docs/BROWSERS.md has it measured.
 IN_A_BROWSER = "in a browser "
-LOOPBACK = (IN_A_BROWSER + "%s may stay http: Chromium and Firefox leave `http://127.0.0.1` alone, where the standard "
-            "upgrades it (docs/BROWSERS.md)")
+MAY_STAY = IN_A_BROWSER + "%s may stay http"
+LOOPBACK = (MAY_STAY + ": Chromium and Firefox leave `http://127.0.0.1` alone, where the standard upgrades it "
+            "(docs/BROWSERS.md)")
 
 
 def notes(case):
@@ -30,8 +31,13 @@ def upgrades(case):
         cause = case.upgrade_of(hop)
         if cause and host_of(hop.asked):
             yield "%s became %s: %s" % (hop.asked, secure(hop.asked), UPGRADES[cause])
-            if cause == "policy" and is_trustworthy(hop.asked) and not case.is_plain_socket:
-                yield LOOPBACK % hop.asked
+        if is_own(case, hop):
+            yield LOOPBACK % hop.asked
+
+
+def is_own(case, hop):
+    """Whether it is a URL of this machine, no WebSocket's, which a policy upgrades."""
+    return case.upgrade_of(hop) == "policy" and is_trustworthy(hop.asked) and not case.is_plain_socket
 
 
 def plain(case):

@@ -156,6 +156,19 @@ class Scenario:
             found.setdefault(one["origin"], index)
         return found
 
+    def server_like(self, origin):
+        """The number of an origin's server; where it has none that of the other scheme, else of another one of its host,
+        or None."""
+        scheme, _, rest = origin.partition("://")
+        others = self.origins_by_host.get(urlsplit(origin).hostname, [])
+        near = [origin, ("http://" if scheme == "https" else "https://") + rest, *others]
+        return next((self.first_servers[one] for one in near if one in self.first_servers), None)
+
+    def rules_like(self, origin):
+        """The rules of that, or one that answers all."""
+        number = self.server_like(origin)
+        return [{"status": 200}] if number is None else self.servers()[number]["rules"]
+
     def rule_of(self, server, request):
         """The number of the first rule of a server that takes a request, or None."""
         rules = self.first_rules(server)

@@ -1,6 +1,6 @@
 """The verdict on a fetch or a load, in words: the line of bin/why, with what it asks for and what to change, and the
 line and the status of bin/ask, which answers whether the page would read it."""
-from commands import edits, findings, results
+from commands import edits, findings, notes, results
 from commands.case import CAUSES
 from commands.scenario import joined
 
@@ -124,7 +124,8 @@ def changes_of(case):
 
 def upgraded(case):
     found = ["%s (%s)" % (shown(one["to"]), CAUSES[one["cause"]]) for one in findings.upgrades(case)]
-    return ["upgraded to " + ", ".join(found)] if found else []
+    own = [notes.MAY_STAY % shown(hop.asked) for hop in case.hops if notes.is_own(case, hop)]
+    return (["upgraded to " + ", ".join(found)] if found else []) + own
 
 
 def plain(case):

@@ -100,10 +100,12 @@ def places(scenario, budget):
     for number in scenario.untrusted:
         for ask in asks[number]:
             ask.includes = False  # its origin is not to be named
+    known = [(one["host"], one["subdomains"]) for one in scenario.data.get("hsts", []) if one["until"]]
     for number, document in enumerate(scenario.documents()):
         path = ["documents", number]
         if "headers" in document:
-            headers = Headers(DOCUMENT, document["headers"], document["url"], asks_of_policies(scenario, number))
+            own = asks_of_policies(scenario, number)
+            headers = Headers(DOCUMENT, document["headers"], document["url"], own, known=known)
             yield Place([*path, "headers"], headers.things(budget), document["url"])
         yield from command_places(document, path, budget)
     yield from answer_places(scenario, [ask for own in asks for ask in own], budget)

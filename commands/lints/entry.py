@@ -41,8 +41,9 @@ class Lint:
         return filled("%s: %s" % (self.wrong, self.fix), it, found)
 
     def line(self):
-        """As `bin/why --lints` lists it: words in capitals stand for what is told of the text."""
-        sentence = "%s: %s" % (self.wrong, self.fix)
+        """As `bin/why --lints` lists it: words in capitals stand for what is told of the text. `{meant.other}` is there
+        for some texts alone."""
+        sentence = ("%s: %s" % (self.wrong, self.fix)).replace("{meant.other}", "")
         text = re.sub(r"\{(?:\w+\.)*(\w+)\}", lambda found: found.group(1).upper(), sentence)
         return "%s (%s): %s" % (self.name, self.looks_at, text)
 

@@ -5,153 +5,218 @@ import re
 from collections import namedtuple
 
 from commands.lints.entry import ANSWER, DOCUMENT, Lint, nearest
+from commands.lints.hsts_values import (FIELD, KNOWN, MONTH, QUOTED, QUOTES, SPELT, YEAR, age_of, amount_in, amount_of,
+                                        as_unicode, changed_quoted, has, is_ignored, names, parts, raw_age, seconds,
+                                        whole)
 from commands.lints.reading import is_address
 
 HEADER = "Strict-Transport-Security"
-KNOWN = ("max-age", "includesubdomains", "preload")
-SPELT = {"max-age": "max-age", "includesubdomains": "includeSubDomains", "preload": "preload"}
-YEAR = 31536000
 LATE = 9999999999  # a second of the year 2286
-TOKEN = r"[!#$%&'*+\-.^_`|~0-9A-Za-z]+"
-PART = r"[ \t]*(?:%s[ \t]*(?:=[ \t]*(?:%s|\"(?:[^\"\\]|\\.)*\")[ \t]*)?)?" % (TOKEN, TOKEN)
-FIELD = re.compile(PART + "(?:;" + PART + ")*")
-PIECE = re.compile(r'(?:[^;"]|"(?:[^"\\]|\\.)*"|")+')  # one directive; a quote that does not close is a sign
+TYPOGRAPHIC = "[%s]" % QUOTES.strip("\"'`")
+# The text of a value, and the whole value as it was meant; and what else is said of some.
+Meant = namedtuple("Meant", "text whole other", defaults=[""])
 
 
-def parts(field):
-    """The directives as pairs of a name in lower case and a value, or None where there is no equals sign."""
-    for text in PIECE.findall(field.value):
-        name, sign, value = text.partition("=")
-        if text.strip():
-            yield name.strip().lower(), value.strip() if sign else None
+# ---- why a value is ignored
+
+def html_escape(value):
+    found = re.search(r"&(?:quot|apos|amp|#\w+);?", value, re.I)
+    return found and Meant(found.group(), whole(value))
 
 
-def names(field):
-    return [name for name, _ in parts(field)]
+def in_quotes(value):
+    text = as_unicode(value)
+    inner = text[1:-1]
+    is_quoted = len(text) > 1 and text[0] in QUOTES and text[-1] in QUOTES and not re.search("[%s]" % QUOTES, inner)
+    return is_quoted and whole(value)
 
 
-def age_of(field):
-    """The text of max-age, without quotes that fit; None where there is none."""
-    value = next((value for name, value in parts(field) if name == "max-age"), None)
-    found = re.fullmatch(r'"(.*)"', value or "")
-    return re.sub(r"\\(.)", r"\1", found.group(1)) if found else value
+def typographic_quotes(value):
+    return re.search(TYPOGRAPHIC, as_unicode(value)) and whole(value)
 
 
-def seconds(field):
-    text = age_of(field)
-    return int(text) if text is not None and re.fullmatch("[0-9]{1,18}", text) else None
+def backslashes(value):
+    return FIELD.fullmatch(value) is None and re.search(r"\\[\"'`]", value) and whole(value)
 
 
-def has(field, name):
-    return name in names(field)
+def with_colon(value):
+    return re.search(r"max-age\s*:", value, re.I) and whole(value)
 
 
-def fits(field):
-    return FIELD.fullmatch(field.value) is not None
+def with_comma(value):
+    return "," in changed_quoted(value, lambda text: "") and whole(value)
 
 
-# The text of a value, and the whole value as it was meant.
-Meant = namedtuple("Meant", "text whole")
+def age_misspelt(value):
+    """A directive that is nearly max-age, or max-age without its equals sign."""
+    near = [] if has(value, "max-age") else [name for name in names(value)[:64] if nearest(name, KNOWN) == "max-age"]
+    is_other = near and not re.search("[%s]" % QUOTES, near[0])
+    return is_other and Meant(near[0], whole(value))
 
 
-def whole(field, age=None):
-    """The whole value as it was meant: with its own max-age, where it has digits and none is given, and with the other
-    directives that stand in it."""
-    found = re.search(r"max-age\s*[=:]?\s*[\"'`\u2018\u201c]?(\d{1,3}(?:,\d{3})+|\d+)(?![A-Za-z.])", field.value, re.I)
-    own = found.group(1).replace(",", "") if found else YEAR
-    more = [SPELT[name] for name in KNOWN[1:] if re.search(name, field.value, re.I)]
-    return "; ".join(["max-age=%s" % (age or own), *more])
+def no_age(value):
+    return FIELD.fullmatch(value) is not None and not has(value, "max-age") and whole(value)
 
 
-# ---- what is found
-
-def in_quotes(field):
-    found = re.fullmatch(r"([\"'`])(.*)\1", field.value)
-    return found and found.group(2)
-
-
-def with_comma(field):
-    return "," in re.sub(r'"[^"]*"', "", field.value) and not in_quotes(field) and whole(field)
-
-
-def with_colon(field):
-    return re.search(r"max-age\s*:", field.value, re.I) is not None and whole(field)
-
-
-def no_age(field):
-    return fits(field) and not has(field, "max-age") and whole(field)
-
-
-def quoted_age(field):
-    text = age_of(field) or ""
-    found = re.match("[\"'`\u2018\u201c]", text)
-    return found and not in_quotes(field) and whole(field)
-
-
-def negative_age(field):
-    return fits(field) and re.fullmatch(r"-\d+", age_of(field) or "") is not None
-
-
-def blank_between(field):
-    found = re.match(r"[0-9]+[ \t]+([A-Za-z].*)", age_of(field) or "")
-    return found and Meant(found.group(1), whole(field))
-
-
-def no_number(field):
-    text = age_of(field)
-    if not fits(field) or not has(field, "max-age") or quoted_age(field) or negative_age(field):
+def twice(value):
+    """A name that stands twice; of max-age with different numbers both are named."""
+    own = names(value) if FIELD.fullmatch(value) else []
+    name = next((name for index, name in enumerate(own[:64]) if name in own[:index]), None)
+    if name is None:
         return None
-    return not re.fullmatch("[0-9]+", text or "") and Meant(text or "nothing", whole(field))
+    ages = [amount_in((text or "").strip(QUOTES)) for one, text in parts(value)[:64] if one == "max-age"]
+    different = dict.fromkeys(age.seconds for age in ages if age)
+    wholes = [whole(value, age) for age in different] or [whole(value)]
+    return Meant(SPELT.get(name, name), wholes[0], ", or `%s`, as it is meant" % wholes[1] if len(wholes) > 1 else "")
 
 
-def twice(field):
-    own = names(field) if fits(field) else []
-    return next((SPELT.get(name, name) for index, name in enumerate(own[:64]) if name in own[:index]), None)
+def empty_age(value):
+    return has(value, "max-age") and not (age_of(value) or "").strip(QUOTES) and whole(value)
+
+
+def negative_age(value):
+    return re.fullmatch(r"-\d+", age_of(value) or "") is not None
+
+
+def with_unit(value):
+    amount = amount_of(value)
+    if not (amount and amount.has_unit and has(value, "max-age")):
+        return None
+    other = " for minutes, or `%s` for months of %d days" % (whole(value, amount.months), MONTH // 86400)
+    return Meant(amount.text, whole(value), other if amount.months else "")
+
+
+def blank_between(value):
+    found = re.match(r'"?[0-9]+"?[ \t]+([A-Za-z].*)', raw_age(value) or "")
+    return found and Meant(found.group(1).strip(QUOTES), whole(value))
+
+
+def quoted_age(value):
+    """Quotes that are none of the grammar, around the name or the number."""
+    text = raw_age(value)
+    around = text is not None and not QUOTED.fullmatch(text) and re.search("[%s]" % QUOTES, text)
+    return (around or re.search(r"[\"'`]max-age|max-age[\"'`]", value, re.I)) and whole(value)
+
+
+def subdomains_value(value):
+    return any(name == "includesubdomains" and text is not None for name, text in parts(value)) and whole(value)
+
+
+def no_number(value):
+    return has(value, "max-age") and seconds(value) is None and Meant(age_of(value), whole(value))
+
+
+# The name of the lint, what is found, why the header is ignored, and what to write: the first that holds is said.
+WRITE = "write `{meant}`"
+Reason = namedtuple("Reason", "name find wrong fix", defaults=[WRITE])
+REASONS = [
+    Reason("hsts/html-escape", html_escape, "`{meant.text}` in it is an escape of HTML, which headers have not",
+           "write `{meant.whole}`"),
+    Reason("hsts/value-in-quotes", in_quotes, "its whole value is in quotes"),
+    Reason("hsts/typographic-quotes", typographic_quotes, "typographic quotes stand in it"),
+    Reason("hsts/backslashes", backslashes, "backslashes stand before its quotes"),
+    Reason("hsts/colon", with_colon, "a colon stands behind max-age"),
+    Reason("hsts/comma", with_comma, "a comma stands in it",
+           "write semicolons between directives and digits alone, as `{meant}`"),
+    Reason("hsts/max-age-misspelt", age_misspelt, "`{meant.text}` is no max-age", "write `{meant.whole}`"),
+    Reason("hsts/max-age-missing", no_age, "it has no max-age"),
+    Reason("hsts/directive-twice", twice, "`{meant.text}` stands twice in it, and so nothing of it counts",
+           "write `{meant.whole}`{meant.other}"),
+    Reason("hsts/max-age-empty", empty_age, "its max-age has no value"),
+    Reason("hsts/max-age-negative", negative_age, "its max-age is negative",
+           "write `max-age=0`, by which the host is forgotten"),
+    Reason("hsts/max-age-unit", with_unit, "`{meant.text}` has a unit, and max-age is a number of seconds without one",
+           "write `{meant.whole}`{meant.other}"),
+    Reason("hsts/semicolon-missing", blank_between, "no semicolon stands before `{meant.text}`",
+           "write `{meant.whole}`"),
+    Reason("hsts/max-age-quotes", quoted_age, "the quotes of max-age are none that fit"),
+    Reason("hsts/subdomains-value", subdomains_value, "includeSubDomains has a value"),
+    Reason("hsts/max-age-no-number", no_number, "`{meant.text}` is no number of seconds",
+           "write digits alone, as `{meant.whole}`"),
+    Reason("hsts/no-field", whole, "`{it.value}` does not fit its grammar"),
+]
+
+
+@functools.lru_cache(64)
+def reason_of(value):
+    """The name of a reason why browsers ignore a value, and what it found; None where they do not."""
+    found = ((one.name, one.find(value)) for one in REASONS) if is_ignored(value) else ()
+    return next((one for one in found if one[1]), None)
+
+
+def said_as(name):
+    """What is found of the first field, where this is the reason why it is ignored."""
+    def find(field):
+        own = reason_of(field.value) if field.is_first else None
+        return own[1] if own and own[0] == name else None
+    return find
+
+
+# ---- what else is found
+
+def counts(field):
+    """Whether it is the field that browsers look at, and they do not ignore its value."""
+    return field.is_first and not is_ignored(field.value)
 
 
 def sent_twice(field):
     return field.count > 1 and field.is_last
 
 
+def is_local(host):
+    """Whether it is a name of localhost, none of which is upgraded (Fetch, "main fetch")."""
+    return host.rstrip(".") == "localhost" or host.rstrip(".").endswith(".localhost")
+
+
 def over_http(field):
-    return field.headers.scheme == "http"
+    host = field.headers.host
+    return field.is_first and field.headers.scheme == "http" and not is_address(host) and not is_local(host)
 
 
 def of_address(field):
-    host = field.headers.host
-    return field.headers.scheme == "https" and is_address(host) and host
+    return field.is_first and is_address(field.headers.host) and field.headers.host
 
 
-def subdomains_value(field):
-    has_value = any(name == "includesubdomains" and value is not None for name, value in parts(field))
-    return fits(field) and has_value and whole(field)
+def of_localhost(field):
+    return field.is_first and is_local(field.headers.host) and field.headers.host
 
 
 def unknown_part(field):
-    """A directive that is nearly a known one."""
-    for name in names(field)[:64] if fits(field) else []:
+    """A directive that is nearly a known one, which is not there."""
+    own = names(field.value)
+    for name in own[:64] if counts(field) and seconds(field.value) else []:
         meant = nearest(name, KNOWN) if name not in KNOWN and re.fullmatch("[a-z_-]+", name) else None
-        if meant:
-            return SPELT[meant]
+        if meant and meant not in own:
+            return Meant(SPELT[meant], whole(field.value))
     return None
 
 
+def preloaded(age):
+    """The whole value as the list of preloaded hosts takes it."""
+    return "max-age=%s; includeSubDomains; preload" % age
+
+
+def to_preload(field):
+    """The value as it is meant, where it is to be preloaded; else an empty text."""
+    value = whole(field.value) if is_ignored(field.value) else field.value
+    return value if field.is_first and has(value, "preload") else ""
+
+
 def preload_alone(field):
-    return fits(field) and has(field, "preload") and not has(field, "includesubdomains")
+    value = to_preload(field)
+    is_alone = value and seconds(value) >= YEAR and not has(value, "includesubdomains")
+    return preloaded(age_of(value)) if is_alone else None
 
 
 def preload_short(field):
-    age = seconds(field)
-    return has(field, "preload") and age is not None and 0 < age < YEAR and whole(field, YEAR)
+    value = to_preload(field)
+    other = "" if has(value, "includesubdomains") else ", nor without includeSubDomains"
+    return Meant("", preloaded(YEAR), other) if value and 0 < seconds(value) < YEAR else None
 
 
 def zero_with_more(field):
-    return seconds(field) == 0 and (has(field, "preload") or has(field, "includesubdomains"))
-
-
-def no_field(field):
-    others = (in_quotes, with_comma, with_colon, quoted_age, blank_between)
-    return not fits(field) and not any(other(field) for other in others) and whole(field)
+    is_more = has(field.value, "preload") or has(field.value, "includesubdomains")
+    return counts(field) and seconds(field.value) == 0 and is_more
 
 
 def misspelt(field):
@@ -160,53 +225,39 @@ def misspelt(field):
 
 
 def on_page(field):
-    """The host as a scenario names one that is known."""
-    host = field.headers.host
-    if field.name != HEADER.lower() or is_address(host) or seconds(field) == 0:
+    """The host as a scenario names one that is known, where a browser notes it by this field, and the scenario does
+    not name it yet."""
+    host, is_wide = field.headers.host, has(field.value, "includesubdomains")
+    is_noted = field.name == HEADER.lower() and counts(field) and seconds(field.value) > 0
+    if not is_noted or field.headers.scheme != "https" or is_address(host) or is_local(host):
         return None
-    return json.dumps({"host": host, "subdomains": has(field, "includesubdomains"), "until": LATE})
+    if any(known == host and wide >= is_wide for known, wide in field.headers.known):
+        return None
+    return json.dumps({"host": host, "subdomains": is_wide, "until": LATE})
 
 
 IGNORED = "the header is ignored: "
-OfAnswer = functools.partial(Lint, among=(ANSWER,))
-TABLE = [
-    OfAnswer("hsts/value-in-quotes", HEADER, in_quotes, IGNORED + "its whole value is in quotes", "write `{meant}`"),
-    OfAnswer("hsts/comma", HEADER, with_comma, IGNORED + "a comma stands in it",
-             "write semicolons between directives and digits alone, as `{meant}`"),
-    OfAnswer("hsts/colon", HEADER, with_colon, IGNORED + "a colon stands behind max-age", "write `{meant}`"),
-    OfAnswer("hsts/max-age-missing", HEADER, no_age, IGNORED + "it has no max-age", "write `{meant}`"),
-    OfAnswer("hsts/max-age-quotes", HEADER, quoted_age, IGNORED + "the quotes of max-age are none that fit",
-             "write `{meant}`"),
-    OfAnswer("hsts/max-age-negative", HEADER, negative_age, IGNORED + "its max-age is negative",
-             "write `max-age=0`, by which the host is forgotten"),
-    OfAnswer("hsts/semicolon-missing", HEADER, blank_between, IGNORED + "no semicolon stands before `{meant.text}`",
-             "write `{meant.whole}`"),
-    OfAnswer("hsts/max-age-no-number", HEADER, no_number, IGNORED + "`{meant.text}` is no number of seconds",
-             "write digits alone, as `{meant.whole}`"),
-    OfAnswer("hsts/directive-twice", HEADER, twice, IGNORED + "`{meant}` stands twice in it", "write it once"),
-    OfAnswer("hsts/subdomains-value", HEADER, subdomains_value, IGNORED + "includeSubDomains has a value",
-             "write `{meant}`"),
-    OfAnswer("hsts/unknown-directive", HEADER, unknown_part, "a directive is skipped, which is nearly `{meant}`",
-             "write `{meant}`"),
-    OfAnswer("hsts/no-field", HEADER, no_field, IGNORED + "`{it.value}` does not fit its grammar",
-             "write `{meant}`"),
-    OfAnswer("hsts/sent-twice", HEADER, sent_twice, "the header stands twice, and the first one alone counts",
-             "send one"),
-    OfAnswer("hsts/over-http", HEADER, over_http, "the header is ignored over http",
-             "send it with answers over https, where http redirects to"),
-    OfAnswer("hsts/on-an-address", HEADER, of_address,
-             IGNORED + "{meant} is an IP address, and none is ever a known host", "ask by a domain; or leave it out"),
-    OfAnswer("hsts/preload-without-subdomains", HEADER, preload_alone,
-             "the list of preloaded hosts takes none without includeSubDomains",
-             "write `includeSubDomains` before `preload`; or take `preload` out"),
-    OfAnswer("hsts/preload-short", HEADER, preload_short,
-             "the list of preloaded hosts takes none with a max-age under a year",
-             "write `{meant}`, or a longer time; or take `preload` out"),
-    OfAnswer("hsts/zero-with-more", HEADER, zero_with_more,
-             "with max-age=0 a browser forgets the host, and nothing else in the header counts",
-             "write `max-age=0` alone; or a longer time"),
-    OfAnswer("hsts/header-misspelt", "a header's name", misspelt, "`{it.header}` is no header that a browser reads",
-             "write `Strict-Transport-Security`"),
+TABLE = [Lint(one.name, HEADER, said_as(one.name), IGNORED + one.wrong, one.fix) for one in REASONS] + [
+    Lint("hsts/unknown-directive", HEADER, unknown_part, "a directive is skipped, which is nearly `{meant.text}`",
+         "write `{meant.whole}`"),
+    Lint("hsts/sent-twice", HEADER, sent_twice, "the header stands twice, and the first one alone counts", "send one"),
+    Lint("hsts/over-http", HEADER, over_http, "the header is ignored over http",
+         "send it with answers over https, where http redirects to"),
+    Lint("hsts/on-an-address", HEADER, of_address,
+         IGNORED + "{meant} is an IP address, and none is ever a known host", "ask by a domain; or leave it out"),
+    Lint("hsts/on-localhost", HEADER, of_localhost,
+         IGNORED + "{meant} is this machine, and no name of localhost is ever a known host",
+         "ask by another domain; or leave it out", is_note=True),
+    Lint("hsts/preload-without-subdomains", HEADER, preload_alone,
+         "the list of preloaded hosts takes none without includeSubDomains", "write `{meant}`; or take `preload` out"),
+    Lint("hsts/preload-short", HEADER, preload_short,
+         "the list of preloaded hosts takes none with a max-age under a year{meant.other}",
+         "write `{meant.whole}`, or a longer time; or take `preload` out"),
+    Lint("hsts/zero-with-more", HEADER, zero_with_more,
+         "with max-age=0 a browser forgets the host, and nothing else in the header counts",
+         "write `max-age=0` alone; or a longer time"),
+    Lint("hsts/header-misspelt", "a header's name", misspelt, "`{it.header}` is no header that a browser reads",
+         "write `Strict-Transport-Security`", (ANSWER,)),
     Lint("hsts/on-the-page", "a header's name", on_page, "a play does not read `{it.header}` of a page",
          "name its host in the scenario's `hsts`, which holds for all documents from the beginning: `{meant}`",
          (DOCUMENT,), is_note=True),

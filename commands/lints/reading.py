@@ -65,18 +65,23 @@ class Budget:
 
 class Headers:
     """The headers of a document, of an answer or of a fetch: `url` is that of the document, or what was asked for.
-    `asks` are the requests of the document, or those that get the answer; `preflights` those whose preflights do."""
+    `asks` are the requests of the document, or those that get the answer; `preflights` those whose preflights do. `known`
+    are the hosts that are known (HSTS) anyhow: pairs of a name, and whether what is below it is known too."""
 
-    def __init__(self, where, pairs, url, asks=(), preflights=(), is_real=False):
+    def __init__(self, where, pairs, url, asks=(), preflights=(), is_real=False, known=()):
         self.where = where
         self.pairs = pairs
         self.url = url
         self.asks = list(asks)[:MOST_ASKS]
         self.preflights = list(preflights)[:MOST_ASKS]
         self.is_real = is_real
+        self.known = known
         self.by_name = {}
-        for name, value in pairs:
+        self.first, self.last = {}, {}  # the number of the first header of a name, and of the last
+        for at, (name, value) in enumerate(pairs):
             self.by_name.setdefault(name.lower(), []).append(value)
+            self.first.setdefault(name.lower(), at)
+            self.last[name.lower()] = at
 
     def values(self, name):
         return self.by_name.get(name.lower(), [])
@@ -158,9 +163,14 @@ class Field:
         self.policies = self.read_policies() if self.is_policy and headers.where != COMMAND else []
 
     @property
+    def is_first(self):
+        """Whether no other header of this name comes before it."""
+        return self.headers.first.get(self.name, self.at) >= self.at
+
+    @property
     def is_last(self):
         """Whether no other header of this name comes behind it."""
-        return not any(name.lower() == self.name for name, _ in self.headers.pairs[self.at + 1:])
+        return self.headers.last.get(self.name, self.at) <= self.at
 
     @property
     def count(self):
