@@ -159,24 +159,31 @@ fn play_lines<R: Threads + Wait + Sync + Print + AllocGlobal>(
     print_played(rt, played, shown)
 }
 
-fn run<R: Threads + Wait + Sync + Print + AllocGlobal>(rt: &R, text: &str) -> Result<(), Failed> {
+fn run<R: Threads + Wait + Sync + Print + AllocGlobal>(
+    rt: &R,
+    net: HostRuntime,
+    text: &str,
+) -> Result<(), Failed> {
+    play_network(rt, net)?;
     play_threads(rt)?;
     play_lines(rt, text)
 }
 
-// Plays what goes over TCP, and then all else.
-fn run_all(rt: HostRuntime, text: &str) -> Result<(), Failed> {
+// Plays what goes over TCP.
+fn play_network<R: Threads + Wait + Print + AllocGlobal>(
+    rt: &R,
+    net: HostRuntime,
+) -> Result<(), Failed> {
     let mut shown = Shown::new(rt.alloc());
-    let played = play_tcp(rt, &mut shown);
-    print_played(&rt, played, shown)?;
-    run(&rt, text)
+    let played = play_tcp(rt, net, &mut shown);
+    print_played(rt, played, shown)
 }
 
 fn main(rt: HostRuntime) -> ExitCode {
     let Ok(text) = io::read_to_string(rt.alloc(), rt.stdin()) else {
         return ExitCode::FAILURE;
     };
-    match run_all(rt, text.as_str()) {
+    match run(&rt, rt, text.as_str()) {
         Ok(()) => ExitCode::SUCCESS,
         Err(_) => ExitCode::FAILURE,
     }

@@ -7,6 +7,8 @@ use rows_shell::{Failed, Shown};
 use std::alloc::Global;
 use std::io::{Read, Write};
 use std::net::{SocketAddr, TcpListener, TcpStream};
+use std::sync::Wait;
+use std::thread::Threads;
 use std::{io, thread};
 use value_bytes::Bytes;
 
@@ -73,17 +75,19 @@ fn received<L: Link>(alloc: Global, link: &mut L) -> Result<Bytes, Failed> {
 }
 
 // Asks the server for its answer, and then, when it has ended, once more; and an address that is none.
-fn ask_routed(
-    rt: HostRuntime,
+fn ask_routed<R: Threads + Wait>(
+    rt: &R,
     link: &mut TcpLink<HostRuntime>,
     listener: TcpListener,
     shown: &mut Shown,
 ) -> Result<(), Failed> {
-    let alloc = rt.alloc();
-    let server = thread::spawn(&rt, move || serve(&listener).unwrap_or(false))?;
+    let alloc = shown.alloc();
+    let Ok(server) = thread::spawn(rt, move || serve(&listener).unwrap_or(false)) else {
+        return Err(Failed);
+    };
     let is_asked = is_sent(alloc, link, b"http://a.test")?;
     tell(shown, b"the server is asked", is_asked);
-    tell(shown, b"it read the request", server.join(&rt));
+    tell(shown, b"it read the request", server.join(rt));
     let answer = received(alloc, link)?;
     tell(shown, b"its answer came", answer.as_slice() == ANSWER);
     tell(shown, b"the link failed", link.faults() != 0);
@@ -95,11 +99,11 @@ fn ask_routed(
 }
 
 // Plays a document's link to a listener.
-fn play_link(rt: HostRuntime, shown: &mut Shown) -> Result<(), Failed> {
-    let listener = TcpListener::bind(&rt, "127.0.0.1:0")?;
-    let routes = routes_to(rt.alloc(), &listener)?;
-    let mut links = TcpLinks::new(rt);
-    let mut link = links.make(rt.alloc(), 0, &routes)?;
+fn play_link<R: Threads + Wait>(rt: &R, net: HostRuntime, shown: &mut Shown) -> Result<(), Failed> {
+    let listener = TcpListener::bind(&net, "127.0.0.1:0")?;
+    let routes = routes_to(net.alloc(), &listener)?;
+    let mut links = TcpLinks::new(net);
+    let mut link = links.make(net.alloc(), 0, &routes)?;
     ask_routed(rt, &mut link, listener, shown)?;
     links.take_back(link);
     tell(shown, b"two asks failed", links.faults() == 2);
@@ -107,10 +111,10 @@ fn play_link(rt: HostRuntime, shown: &mut Shown) -> Result<(), Failed> {
 }
 
 // Plays a document's link that has no route.
-fn play_unrouted(rt: HostRuntime, shown: &mut Shown) -> Result<(), Failed> {
-    let mut links = TcpLinks::new(rt);
-    let mut link = links.make(rt.alloc(), 0, &Routes::new(rt.alloc()))?;
-    let is_asked = is_sent(rt.alloc(), &mut link, b"http://a.test")?;
+fn play_unrouted(net: HostRuntime, shown: &mut Shown) -> Result<(), Failed> {
+    let mut links = TcpLinks::new(net);
+    let mut link = links.make(net.alloc(), 0, &Routes::new(net.alloc()))?;
+    let is_asked = is_sent(net.alloc(), &mut link, b"http://a.test")?;
     tell(shown, b"without a route it is asked", is_asked);
     let is_over = matches!(link.recv(&mut [0; 8]), Ok(0));
     tell(shown, b"nothing comes then", is_over);
@@ -118,8 +122,8 @@ fn play_unrouted(rt: HostRuntime, shown: &mut Shown) -> Result<(), Failed> {
 }
 
 // Connects, sends two bytes, and reads two.
-fn call(rt: HostRuntime, address: SocketAddr) -> io::Result<[u8; 2]> {
-    let mut stream = TcpStream::connect(&rt, address)?;
+fn call(net: HostRuntime, address: SocketAddr) -> io::Result<[u8; 2]> {
+    let mut stream = TcpStream::connect(&net, address)?;
     stream.write_all(b"hi")?;
     let mut answer = [0; 2];
     stream.read_exact(&mut answer)?;
@@ -143,35 +147,45 @@ fn answer_next<A: Accepts>(accepts: &mut A, shown: &mut Shown) -> Result<(), Fai
     let Ok(mut end) = accepts.next() else {
         return Err(Failed);
     };
-    let came = two_bytes(&mut end)?;
-    tell(shown, b"two bytes came of a peer", came == *b"hi");
+    let came = two_bytes(&mut end);
     let is_written = write_whole(&mut end, b"ok").is_ok();
-    tell(shown, b"two were written to it", is_written);
     accepts.take_back(end);
+    tell(shown, b"two bytes came of a peer", came? == *b"hi");
+    tell(shown, b"two were written to it", is_written);
     Ok(())
 }
 
 // Accepts a connection from another thread.
-fn play_accepted(rt: HostRuntime, shown: &mut Shown) -> Result<(), Failed> {
-    let address = TcpListener::bind(&rt, "127.0.0.1:0")?.local_addr()?;
-    let text = format!(in rt.alloc(); "{address}")?;
-    let mut accepts = TcpAccepts::new(&rt);
+fn play_accepted<R: Threads + Wait>(
+    rt: &R,
+    net: HostRuntime,
+    shown: &mut Shown,
+) -> Result<(), Failed> {
+    let address = TcpListener::bind(&net, "127.0.0.1:0")?.local_addr()?;
+    let text = format!(in net.alloc(); "{address}")?;
+    let mut accepts = TcpAccepts::new(&net);
     if accepts.listen(text.as_bytes()).is_err() {
         return Err(Failed);
     }
-    let peer = thread::spawn(&rt, move || call(rt, address).unwrap_or([0; 2]))?;
+    let Ok(peer) = thread::spawn(rt, move || call(net, address).unwrap_or([0; 2])) else {
+        return Err(Failed);
+    };
     answer_next(&mut accepts, shown)?;
-    tell(shown, b"it has read them", peer.join(&rt) == *b"ok");
+    tell(shown, b"it has read them", peer.join(rt) == *b"ok");
     tell(shown, b"listening failed", accepts.faults() != 0);
     Ok(())
 }
 
 /// Plays links and a connection over TCP, and shows what came of them.
-pub fn play_tcp(rt: HostRuntime, shown: &mut Shown) -> Result<(), Failed> {
-    play_link(rt, shown)?;
-    play_unrouted(rt, shown)?;
-    play_accepted(rt, shown)?;
-    let now = SystemClock::new(rt).now();
+pub fn play_tcp<R: Threads + Wait>(
+    rt: &R,
+    net: HostRuntime,
+    shown: &mut Shown,
+) -> Result<(), Failed> {
+    play_link(rt, net, shown)?;
+    play_unrouted(net, shown)?;
+    play_accepted(rt, net, shown)?;
+    let now = SystemClock::new(net).now();
     tell(shown, b"the clock is behind 2023", now > 1_700_000_000);
     shown.add(b"\n");
     Ok(())
