@@ -334,6 +334,9 @@ def of_case(case, wanted):
         keys = [key for key in keys if key not in following]
         more = "; not compared, since it follows: " + edits.listed(following) if following else ""
         yield "result", "expected %s; it came to %s%s" % (wanted["result"], case.result.short(), more)
+    elif wanted_refusals.untested(case, wanted):
+        yield "result", "expected %s; it came to %s, but %s" % (
+            wanted["result"], case.result.short(), wanted_refusals.untested(case, wanted))
     told = {key: list(LOOKS[key](case, wanted[key])) for key in keys}
     if told.get("upgraded"):  # so it was sent elsewhere
         told.pop("sent", None)

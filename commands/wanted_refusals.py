@@ -1,11 +1,13 @@
 """What bin/expect says of a fetch that a test wants refused, and that came to something else: why it was refused
 otherwise, or which headers let it in; and no change that would let it through."""
 from commands import edits, policy_questions, results, wanted_requests
+from commands.case import Request
 from commands.explanations import PREFLIGHTED, TABLE
 from commands.needs import ALLOW_CREDENTIALS, ALLOW_HEADERS, ALLOW_METHODS, ALLOW_ORIGIN
 from commands.play_text import header_of, is_preflight
 
 POLICIES = ("4", "19")
+UNANSWERED = ("link/hang", "link/reset", "link/tls-port", "head/nothing", "head/tls")
 GOES_ON = "; many servers send back whatever Origin they get"
 
 
@@ -17,6 +19,36 @@ def is_meant(wanted):
     if is_negated:
         return rest in ("read", "cors", "basic", "loaded")
     return rest == "refused" or rest.startswith(("failed", "type-error")) or number_of(wanted) != ""
+
+
+def is_any(wanted):
+    """Whether what a test wants of a fetch is a refusal of any kind, by a result that names none."""
+    is_negated, rest = results.negated(wanted.get("result", ""))
+    return rest in ("read", "cors", "basic", "loaded") if is_negated else rest == "refused"
+
+
+def untested(case, wanted):
+    """Why no answer of a server has refused a fetch of which a test wants any refusal; an empty text where one has, or
+    where the test names the way."""
+    is_refused = is_any(wanted) and case.result.is_refused() and case.explanation is not None
+    said = untold(case) if is_refused and wanted.get("why") != case.explanation.way else ""
+    return "%s: %s" % (said, case.explanation.condition) if said else ""
+
+
+def untold(case):
+    """The same without what has come about."""
+    way = case.explanation.way
+    if way in UNANSWERED:
+        return "no server has answered" if case.is_net else ""
+    if way.startswith("link/") or way == "head/no-server":
+        return "no server was asked" if len(case.exchanges) == 1 else "the last request came to no server"
+    return "no rule has answered" if way == "cors/no-rule" and not is_for_other_method(case) else ""
+
+
+def is_for_other_method(case):
+    """Whether it is a preflight that has no rule, and the request behind it has one: so the server has no CORS."""
+    return is_preflight(case.request) and case.scenario.rule_of(
+        case.answer.server, Request(case.asked_url, case.method)) is not None
 
 
 def results_of(name):
@@ -46,6 +78,9 @@ def is_of_preflight(wanted):
 def lines(case, wanted, failed):
     """Of a fetch of which something failed that a test wants."""
     own = case.explanation.reasons() if case.explanation else []
+    if untested(case, wanted):
+        is_of_link = case.explanation.way.startswith("link/")
+        own = ["change: " + case.explanation.change, own[-1]] if is_of_link else own[1:]
     for policy in case.policies_told:
         if policy.enforced or "violations" in failed:
             own += policy.reasons() if policy.enforced else policy.lines()
