@@ -278,7 +278,7 @@ def differences(expect, told, passing):
         if key == "sent":
             yield from missing(told, listed(wanted))
         elif key == "never sent":
-            yield from unwanted(told, listed(wanted))
+            yield from unwanted(told, listed(wanted), expect)
         elif key not in policy_questions.KEYS:
             yield from of_fetch(key, wanted, cases, passing)
 
@@ -295,13 +295,18 @@ def missing(told, wanted):
             yield "sent: expected %s; sent were %s" % (wanted_requests.told(one), sent)
 
 
-def unwanted(told, wanted):
+def unwanted(told, wanted, expect):
+    own = {fetch_of(key): value for key, value in expect.items() if fetch_of(key)}
     for case in told.cases:
+        meant = own.get((case.fetch.document.number, case.fetch.name), {})
+        meant = {"result": meant} if isinstance(meant, str) else meant
         for request, _ in case.exchanges:
             for one in wanted:
                 if wanted_requests.is_met(one, request):
                     sent = wanted_requests.named(request)
                     yield "never sent: expected no %s; %s sent %s" % (one, case.fetch.name, sent)
+                    if meant and wanted_refusals.is_meant(meant) and not list(of_case(case, meant)):
+                        yield from ("  " + line for line in wanted_refusals.let_out(case, request))
 
 
 # ---- one fetch

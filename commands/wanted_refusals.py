@@ -100,13 +100,33 @@ def let_in(case, wanted, failed):
         yield from to_change(case, asked[-1:], number)
 
 
+def let_out(case, request):
+    """What let a request be sent that was to be refused before: the answer to its preflight, or that there was none."""
+    if is_preflight(request) or request.origin == case.page_origin or case.command.options["mode"] != "cors":
+        return
+    before = case.exchanges[:[one for one, _ in case.exchanges].index(request)]
+    asked = [one for one in before if is_preflight(one[0]) and case.whole(one[0]) == case.whole(request)]
+    yield from told(case, asked[-1:])
+    yield from to_change(case, asked[-1:], "")
+    if not has_preflight(case):
+        yield without_preflight(case)
+
+
+def has_preflight(case):
+    return any(is_preflight(request) for request, _ in case.exchanges)
+
+
+def without_preflight(case):
+    is_kept = any(event.op == "covers" and event.reply == "yes" for event in case.fetch.of("call"))
+    return "let in: no preflight was sent, since %s" % (
+        "the answer to an earlier one is kept" if is_kept else "its method and its headers need none")
+
+
 def all_let_in(case, wanted):
     """Those of all that CORS looked at; and that there was no preflight, where it was to be refused."""
-    number, has_preflight = number_of(wanted), any(is_preflight(request) for request, _ in case.exchanges)
-    if is_of_preflight(wanted) and not has_preflight:
-        is_kept = any(event.op == "covers" and event.reply == "yes" for event in case.fetch.of("call"))
-        yield "let in: no preflight was sent, since %s" % (
-            "the answer to an earlier one is kept" if is_kept else "its method and its headers need none")
+    number = number_of(wanted)
+    if is_of_preflight(wanted) and not has_preflight(case):
+        yield without_preflight(case)
     checked, is_foreign = [], False
     for request, answer in case.exchanges:
         is_foreign |= request.origin != case.page_origin
@@ -114,7 +134,7 @@ def all_let_in(case, wanted):
     if checked and case.command.options["mode"] == "cors":
         yield from told(case, checked)
         own = [one for one in checked if not is_preflight(one[0])]
-        if has_preflight or number != "7":
+        if has_preflight(case) or number != "7":
             yield from to_change(case, own if number == "12" else checked, number)
     elif not is_foreign:
         yield "let in: the URL is of the page's own origin, so that there is no CORS check"
