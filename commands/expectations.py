@@ -280,7 +280,7 @@ def differences(expect, told, passing):
         elif key == "never sent":
             yield from unwanted(told, listed(wanted), expect)
         elif key not in policy_questions.KEYS:
-            yield from of_fetch(key, wanted, cases, passing)
+            yield from of_fetch(key, wanted, cases, passing, listed(expect.get("sent", [])))
 
 
 def listed(wanted):
@@ -311,7 +311,7 @@ def unwanted(told, wanted, expect):
 
 # ---- one fetch
 
-def of_fetch(key, wanted, cases, passing):
+def of_fetch(key, wanted, cases, passing, sent):
     case = cases.get(fetch_of(key))
     if case is None:
         has = ", ".join(name for _, name in list(cases)[:20]) or "none"
@@ -321,14 +321,21 @@ def of_fetch(key, wanted, cases, passing):
     found = list(of_case(case, wanted))
     yield from ("%s%s: %s" % (key, verdicts.asked(case), line) for _, line in found)
     failed = {name for name, _ in found}
-    if found and "sees" in wanted:
-        case.asked_by_test = list(wanted["sees"])
-        case.explanation = explain(case)
+    if found:
+        keep_wanted(case, wanted, sent)
     if failed and wanted_refusals.is_meant(wanted):
         yield from ("  " + line for line in wanted_refusals.lines(case, wanted, failed))
     elif failed:
         passing.append((case.fetch.document.number, case, True, "violations" in failed))
         yield from ("  " + line for line in lines_of(case, "violations" in failed, failed != {"violations"}))
+
+
+def keep_wanted(case, wanted, sent):
+    """Has what is advised of a case keep what a test wants besides its result. `sent` is what any fetch is to send."""
+    case.asked_by_test = list(wanted.get("sees", []))
+    case.is_secret_wanted = wanted_requests.with_secret(wanted.get("sent", []), sent, case)
+    if case.asked_by_test or case.is_secret_wanted:
+        case.explanation = explain(case)
 
 
 def of_case(case, wanted):
