@@ -305,8 +305,16 @@ def unwanted(told, wanted, expect):
                 if wanted_requests.is_met(one, request):
                     sent = wanted_requests.named(request)
                     yield "never sent: expected no %s; %s sent %s" % (one, case.fetch.name, sent)
-                    if meant and wanted_refusals.is_meant(meant) and not list(of_case(case, meant)):
-                        yield from ("  " + line for line in wanted_refusals.let_out(case, request))
+                    yield from ("  " + line for line in let_out(case, request, meant))
+
+
+def let_out(case, request, meant):
+    """What let a request be sent of a fetch that a test wants refused, where that is not said of the fetch."""
+    if meant and wanted_refusals.is_meant(meant):
+        failed = {name for name, _ in of_case(case, meant)}
+        said = wanted_refusals.lines(case, meant, failed) if failed else []
+        is_said = any(line.startswith("let in: ") for line in said)
+        yield from [] if is_said else wanted_refusals.let_out(case, request)
 
 
 # ---- one fetch

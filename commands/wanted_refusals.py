@@ -37,11 +37,12 @@ def untested(case, wanted):
 
 def untold(case):
     """The same without what has come about."""
-    way = case.explanation.way
+    way, is_first = case.explanation.way, len(case.exchanges) == 1
     if way in UNANSWERED:
-        return "no server has answered" if case.is_net else ""
+        unanswered = "no server has answered" if is_first else "the last request was not answered"
+        return unanswered if case.is_net else ""
     if way.startswith("link/") or way == "head/no-server":
-        return "no server was asked" if len(case.exchanges) == 1 else "the last request came to no server"
+        return "no server was asked" if is_first else "the last request came to no server"
     return "no rule has answered" if way == "cors/no-rule" and not is_for_other_method(case) else ""
 
 
