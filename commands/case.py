@@ -73,6 +73,7 @@ class Case:
         self.about = None
         self.plain_reasons = []  # why the URLs of the chain stay http, as known_hosts.py has it
         self.asked_by_test = []  # the headers that a test wants the script to see
+        self.is_secret_wanted = False  # whether a test wants a cookie or Authorization to be sent
         self.kept_out = []  # what a test wants the page's policies to be violated by, as csp.Asked
 
     # ---- the page and the request

@@ -91,10 +91,10 @@ def cors(c):
 
 
 def cors_or_without_credentials(c):
-    """Without credentials, where nothing else is missing then."""
+    """Or without credentials, where nothing else is missing then, and no test wants them to be sent."""
     needs = copy.copy(c.needs_told)
     needs.includes = False
-    is_enough = not (needs.all_edits() if is_preflight(c.request) else needs.own_edits())
+    is_enough = not c.is_secret_wanted and not (needs.all_edits() if is_preflight(c.request) else needs.own_edits())
     return cors(c) + ([[without_credentials(c)]] if is_enough else [])
 
 

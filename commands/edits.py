@@ -78,6 +78,7 @@ def body_limit(number):
 # ---- sentences
 
 UNSEEN = ", where it does not send that yet"  # of an answer that has not come
+ANY_OTHER = " in place of any other"  # an origin that it may send: two values pass no request
 LONGEST_BEFORE = 80  # characters of a value that is replaced
 STARRED = ("Access-Control-Allow-Methods", "Access-Control-Allow-Headers")
 NO_WILDCARD = " (with credentials never send `*` here)"
@@ -102,7 +103,8 @@ def told(edit):
     """The same, and what stands in its place now."""
     before = edit.get("replaces")
     if before in (None, edit["value"]):
-        return line_of(edit)
+        is_to_be_one = edit.get("unseen") and edit["set"] == "Access-Control-Allow-Origin"
+        return line_of(edit) + (ANY_OTHER if is_to_be_one else "")
     return "%s in place of `%s`%s" % (line_of(edit), cut(before), NO_WILDCARD if is_star_gone(edit) else "")
 
 

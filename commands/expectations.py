@@ -278,9 +278,9 @@ def differences(expect, told, passing):
         if key == "sent":
             yield from missing(told, listed(wanted))
         elif key == "never sent":
-            yield from unwanted(told, listed(wanted))
+            yield from unwanted(told, listed(wanted), expect)
         elif key not in policy_questions.KEYS:
-            yield from of_fetch(key, wanted, cases, passing)
+            yield from of_fetch(key, wanted, cases, passing, listed(expect.get("sent", [])))
 
 
 def listed(wanted):
@@ -295,18 +295,31 @@ def missing(told, wanted):
             yield "sent: expected %s; sent were %s" % (wanted_requests.told(one), sent)
 
 
-def unwanted(told, wanted):
+def unwanted(told, wanted, expect):
+    own = {fetch_of(key): value for key, value in expect.items() if fetch_of(key)}
     for case in told.cases:
+        meant = own.get((case.fetch.document.number, case.fetch.name), {})
+        meant = {"result": meant} if isinstance(meant, str) else meant
         for request, _ in case.exchanges:
             for one in wanted:
                 if wanted_requests.is_met(one, request):
                     sent = wanted_requests.named(request)
                     yield "never sent: expected no %s; %s sent %s" % (one, case.fetch.name, sent)
+                    yield from ("  " + line for line in let_out(case, request, meant))
+
+
+def let_out(case, request, meant):
+    """What let a request be sent of a fetch that a test wants refused, where that is not said of the fetch."""
+    if meant and wanted_refusals.is_meant(meant):
+        failed = {name for name, _ in of_case(case, meant)}
+        said = wanted_refusals.lines(case, meant, failed) if failed else []
+        is_said = any(line.startswith("let in: ") for line in said)
+        yield from [] if is_said else wanted_refusals.let_out(case, request)
 
 
 # ---- one fetch
 
-def of_fetch(key, wanted, cases, passing):
+def of_fetch(key, wanted, cases, passing, sent):
     case = cases.get(fetch_of(key))
     if case is None:
         has = ", ".join(name for _, name in list(cases)[:20]) or "none"
@@ -316,14 +329,21 @@ def of_fetch(key, wanted, cases, passing):
     found = list(of_case(case, wanted))
     yield from ("%s%s: %s" % (key, verdicts.asked(case), line) for _, line in found)
     failed = {name for name, _ in found}
-    if found and "sees" in wanted:
-        case.asked_by_test = list(wanted["sees"])
-        case.explanation = explain(case)
+    if found:
+        keep_wanted(case, wanted, sent)
     if failed and wanted_refusals.is_meant(wanted):
         yield from ("  " + line for line in wanted_refusals.lines(case, wanted, failed))
     elif failed:
         passing.append((case.fetch.document.number, case, True, "violations" in failed))
         yield from ("  " + line for line in lines_of(case, "violations" in failed, failed != {"violations"}))
+
+
+def keep_wanted(case, wanted, sent):
+    """Has what is advised of a case keep what a test wants besides its result. `sent` is what any fetch is to send."""
+    case.asked_by_test = list(wanted.get("sees", []))
+    case.is_secret_wanted = wanted_requests.with_secret(wanted.get("sent", []), sent, case)
+    if case.asked_by_test or case.is_secret_wanted:
+        case.explanation = explain(case)
 
 
 def of_case(case, wanted):
@@ -334,6 +354,9 @@ def of_case(case, wanted):
         keys = [key for key in keys if key not in following]
         more = "; not compared, since it follows: " + edits.listed(following) if following else ""
         yield "result", "expected %s; it came to %s%s" % (wanted["result"], case.result.short(), more)
+    elif wanted_refusals.untested(case, wanted):
+        yield "result", "expected %s; it came to %s, but %s" % (
+            wanted["result"], case.result.short(), wanted_refusals.untested(case, wanted))
     told = {key: list(LOOKS[key](case, wanted[key])) for key in keys}
     if told.get("upgraded"):  # so it was sent elsewhere
         told.pop("sent", None)

@@ -191,4 +191,4 @@ def replaced(head, name):
 
 def told(head, name, value):
     """A header as it is written, and what it replaces."""
-    return edits.told({"set": name, "value": value, "replaces": replaced(head, name)})
+    return edits.told({"set": name, "value": value, "replaces": replaced(head, name), "unseen": head is None})

@@ -1,11 +1,13 @@
 """What bin/expect says of a fetch that a test wants refused, and that came to something else: why it was refused
 otherwise, or which headers let it in; and no change that would let it through."""
 from commands import edits, policy_questions, results, wanted_requests
+from commands.case import Request
 from commands.explanations import PREFLIGHTED, TABLE
 from commands.needs import ALLOW_CREDENTIALS, ALLOW_HEADERS, ALLOW_METHODS, ALLOW_ORIGIN
 from commands.play_text import header_of, is_preflight
 
 POLICIES = ("4", "19")
+UNANSWERED = ("link/hang", "link/reset", "link/tls-port", "head/nothing", "head/tls")
 GOES_ON = "; many servers send back whatever Origin they get"
 
 
@@ -17,6 +19,37 @@ def is_meant(wanted):
     if is_negated:
         return rest in ("read", "cors", "basic", "loaded")
     return rest == "refused" or rest.startswith(("failed", "type-error")) or number_of(wanted) != ""
+
+
+def is_any(wanted):
+    """Whether what a test wants of a fetch is a refusal of any kind, by a result that names none."""
+    is_negated, rest = results.negated(wanted.get("result", ""))
+    return rest in ("read", "cors", "basic", "loaded") if is_negated else rest == "refused"
+
+
+def untested(case, wanted):
+    """Why no answer of a server has refused a fetch of which a test wants any refusal; an empty text where one has, or
+    where the test names the way."""
+    is_refused = is_any(wanted) and case.result.is_refused() and case.explanation is not None
+    said = untold(case) if is_refused and wanted.get("why") != case.explanation.way else ""
+    return "%s: %s" % (said, case.explanation.condition) if said else ""
+
+
+def untold(case):
+    """The same without what has come about."""
+    way, is_first = case.explanation.way, len(case.exchanges) == 1
+    if way in UNANSWERED:
+        unanswered = "no server has answered" if is_first else "the last request was not answered"
+        return unanswered if case.is_net else ""
+    if way.startswith("link/") or way == "head/no-server":
+        return "no server was asked" if is_first else "the last request came to no server"
+    return "no rule has answered" if way == "cors/no-rule" and not is_for_other_method(case) else ""
+
+
+def is_for_other_method(case):
+    """Whether it is a preflight that has no rule, and the request behind it has one: so the server has no CORS."""
+    return is_preflight(case.request) and case.scenario.rule_of(
+        case.answer.server, Request(case.asked_url, case.method)) is not None
 
 
 def results_of(name):
@@ -46,6 +79,9 @@ def is_of_preflight(wanted):
 def lines(case, wanted, failed):
     """Of a fetch of which something failed that a test wants."""
     own = case.explanation.reasons() if case.explanation else []
+    if untested(case, wanted):
+        is_of_link = case.explanation.way.startswith("link/")
+        own = ["change: " + case.explanation.change, own[-1]] if is_of_link else own[1:]
     for policy in case.policies_told:
         if policy.enforced or "violations" in failed:
             own += policy.reasons() if policy.enforced else policy.lines()
@@ -65,13 +101,33 @@ def let_in(case, wanted, failed):
         yield from to_change(case, asked[-1:], number)
 
 
+def let_out(case, request):
+    """What let a request be sent that was to be refused before: the answer to its preflight, or that there was none."""
+    if is_preflight(request) or request.origin == case.page_origin or case.command.options["mode"] != "cors":
+        return
+    before = case.exchanges[:[one for one, _ in case.exchanges].index(request)]
+    asked = [one for one in before if is_preflight(one[0]) and case.whole(one[0]) == case.whole(request)]
+    yield from told(case, asked[-1:])
+    yield from to_change(case, asked[-1:], "")
+    if not has_preflight(case):
+        yield without_preflight(case)
+
+
+def has_preflight(case):
+    return any(is_preflight(request) for request, _ in case.exchanges)
+
+
+def without_preflight(case):
+    is_kept = any(event.op == "covers" and event.reply == "yes" for event in case.fetch.of("call"))
+    return "let in: no preflight was sent, since %s" % (
+        "the answer to an earlier one is kept" if is_kept else "its method and its headers need none")
+
+
 def all_let_in(case, wanted):
     """Those of all that CORS looked at; and that there was no preflight, where it was to be refused."""
-    number, has_preflight = number_of(wanted), any(is_preflight(request) for request, _ in case.exchanges)
-    if is_of_preflight(wanted) and not has_preflight:
-        is_kept = any(event.op == "covers" and event.reply == "yes" for event in case.fetch.of("call"))
-        yield "let in: no preflight was sent, since %s" % (
-            "the answer to an earlier one is kept" if is_kept else "its method and its headers need none")
+    number = number_of(wanted)
+    if is_of_preflight(wanted) and not has_preflight(case):
+        yield without_preflight(case)
     checked, is_foreign = [], False
     for request, answer in case.exchanges:
         is_foreign |= request.origin != case.page_origin
@@ -79,7 +135,7 @@ def all_let_in(case, wanted):
     if checked and case.command.options["mode"] == "cors":
         yield from told(case, checked)
         own = [one for one in checked if not is_preflight(one[0])]
-        if has_preflight or number != "7":
+        if has_preflight(case) or number != "7":
             yield from to_change(case, own if number == "12" else checked, number)
     elif not is_foreign:
         yield "let in: the URL is of the page's own origin, so that there is no CORS check"

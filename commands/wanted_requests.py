@@ -3,9 +3,11 @@ which says of the headers too what the request has and lacks."""
 import re
 
 from commands import edits
+from commands.case import Request
 from commands.needs import TOKEN
 
 FORM = re.compile(r"%s(?: (?:/|https?://)\S*)?" % TOKEN.pattern)
+SECRETS = ("cookie", "authorization")
 EXAMPLE = '{"request": "PUT /x", "has": {"Cookie": true}}'
 
 
@@ -35,6 +37,13 @@ def is_met(wanted, request):
     method, _, where = text_of(wanted).partition(" ")
     is_there = method == request.method and where in ("", request.target, request.origin + request.target)
     return is_there and (isinstance(wanted, str) or has_headers(wanted, request))
+
+
+def with_secret(own, others, case):
+    """Whether a test wants a fetch to send a cookie or Authorization: by its own requests, or by one of its URL."""
+    asked = case.request and Request(case.asked_url, case.method)
+    wanted = [*own, *(one for one in others if asked and is_met(text_of(one), asked))]
+    return any(name.lower() in SECRETS for one in wanted if isinstance(one, dict) for name in one.get("has", {}))
 
 
 def has_headers(wanted, request):

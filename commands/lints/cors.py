@@ -133,7 +133,7 @@ ALLOW_ORIGIN = [
              "send {meant} in its place, where the server trusts it"),
     OfAnswer("cors/star-beside-credentials", ORIGIN, star_beside_credentials,
              "`*` lets no request with credentials read, and Access-Control-Allow-Credentials stands beside it",
-             "send the origin; or leave Access-Control-Allow-Credentials out"),
+             "send an origin that you trust; or leave Access-Control-Allow-Credentials out"),
     OfAnswer("cors/vary-missing", ORIGIN, vary_missing,
              "this answer is for one origin, and where others ask too a cache gives it to them",
              "send `Vary: Origin` with it"),
