@@ -339,23 +339,27 @@ def of_fetch(key, wanted, cases, passing):
     if found and "sees" in wanted:
         case.asked_by_test = list(wanted["sees"])
         case.explanation = explain(case)
+    in_test = list(change_of_test(key, case, wanted)) if "result" in failed else []
     if failed and wanted_refusals.is_meant(wanted):
-        yield from ("  " + line for line in wanted_refusals.lines(case, wanted, failed))
+        yield from ("  " + line for line in [*wanted_refusals.lines(case, wanted, failed), *in_test])
     elif failed:
         passing.append((case.fetch.document.number, case, True, "violations" in failed))
-        in_test = list(change_of_test(key, case, wanted)) if "result" in failed else []
         lines = lines_of(case, "violations" in failed, failed != {"violations"})
         yield from ("  " + line for line in lines + in_test if not (in_test and line == "change: " + NOTHING))
 
 
 def change_of_test(key, case, wanted):
     """What a test is to say of a URL that this engine never loads, where no change of a policy brings what it wants."""
-    passed = copy.copy(case.result)
-    passed.verdict = "none"
-    if case.is_unloaded and not is_met(wanted["result"], passed):
-        reports = [one for one in findings.violations(case) if one["disposition"] == "report"]
-        meant = {"result": "no-verdict", "violations": wanted.get("violations", short_violations(reports))}
-        yield 'change: write "%s": %s in the test, since this engine does not load it' % (key, json.dumps(meant))
+    word = "refused" if wanted_refusals.is_meant(wanted) else "no-verdict"
+    came = copy.copy(case.result)
+    came.verdict = "refused" if word == "refused" else "none"
+    if not case.is_unloaded or is_met(wanted["result"], came):
+        return
+    own = [one for one in findings.violations(case) if word == "refused" or one["disposition"] == "report"]
+    is_known = word in (word_of(case), "no-verdict")  # what is to refuse it may not be there yet
+    more = {"violations": wanted.get("violations", short_violations(own))} if is_known else {}
+    meant = json.dumps({"result": word, **more})
+    yield 'change: write "%s": %s in the test, since this engine does not load it' % (key, meant)
 
 
 def of_case(case, wanted):
