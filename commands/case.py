@@ -701,7 +701,9 @@ class Case:
     def unloaded_change(self):
         if any(one.enforced for one in self.violations):
             return "let each policy pass it, as follows"
-        return "let each policy pass it before it is enforced, as follows" if self.violations else "nothing is to be changed"
+        if self.violations:
+            return "let each policy pass it before it is enforced, as follows"
+        return "nothing is to be changed"
 
     @property
     def is_open(self):

@@ -151,7 +151,8 @@ def reported(case):
 
 def change_of_report(case, reported_by):
     """The change of a policy that reports by a directive."""
-    changes = {one.first_change for one in case.policies_told if (one.policy, one.directive) == reported_by and one.edits}
+    own = [one for one in case.policies_told if (one.policy, one.directive) == reported_by]
+    changes = {one.first_change for one in own if one.edits}
     return ": " + changes.pop() if len(changes) == 1 else ""
 
 
