@@ -702,8 +702,9 @@ class Case:
     def unloaded_change(self):
         if any(one.enforced for one in self.violations):
             return "let each policy pass it, as follows"
-        until = "; before the policy is enforced, let it pass this URL" if self.violations else ""
-        return "nothing is to be changed" + until
+        if self.violations:
+            return "let each policy pass it before it is enforced, as follows"
+        return "nothing is to be changed"
 
     @property
     def is_open(self):

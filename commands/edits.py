@@ -200,7 +200,7 @@ def of_slips(edits):
     """What stands there now in the place of directives, where it is misspelt or they lack their semicolons."""
     swallowed = ["`%s`" % one["set"] for one in edits if "behind" in one]
     commas = ["`%s`" % name for one in edits for name in one.get("commas", [])]
-    said = " in place of `%s`" % cut(edits[0]["replaces"]) if "replaces" in edits[0] else ""
+    said = " in place of `%s`" % shortened(edits[0]["replaces"]) if "replaces" in edits[0] else ""
     said += ", with the semicolon that is missing before " + listed(swallowed) if swallowed else ""
     return said + (", with a semicolon for the comma before " + listed(commas) if commas else "")
 

@@ -1,5 +1,7 @@
 """What bin/expect does: plays the scenario of a test, and compares with what the test expects."""
+import copy
 import functools
+import json
 import os
 import re
 
@@ -7,7 +9,7 @@ from commands import (asking, edits, findings, json_text, known_hosts, lints, no
                       results, running, streams, verdicts, wanted_refusals, wanted_requests)
 from commands.asking import Wrong
 from commands.case import CAUSES
-from commands.explanations import TABLE, explain, lines_of
+from commands.explanations import NOTHING, TABLE, explain, lines_of
 from commands.schema import Schema
 
 SCHEMA = os.path.join(running.ROOT, "schema", "expect.schema.json")
@@ -233,9 +235,27 @@ def unnamed(expect, told):
     are_many = len(told.play.documents) > 1
     for case in left[:MOST_UNNAMED]:
         yield f'warning: {verdicts.named(case, are_many)}: the test does not name it: ' \
-              f'add "{verdicts.name_of(case.fetch, are_many)}": "{case.result.short()}", if that is meant'
+              f'add "{verdicts.name_of(case.fetch, are_many)}": {json.dumps(as_it_came(case))}, if that is meant'
     if len(left) > MOST_UNNAMED:
         yield f"warning: {len(left) - MOST_UNNAMED} more fetches and loads are not named: add them"
+
+
+def as_it_came(case):
+    """What a test says to want what came. Of a URL that this engine never loads the result alone would hold under
+    every policy."""
+    if not case.is_unloaded:
+        return case.result.short()
+    return {"result": word_of(case), "violations": short_violations(findings.violations(case))}
+
+
+def word_of(case):
+    """The word for a URL that this engine never loads, as a test has it."""
+    return "no-verdict" if case.verdict == "none" else "refused"
+
+
+def short_violations(violations):
+    """Each once, as a test says them."""
+    return list(dict.fromkeys("%(policy)d %(disposition)s %(directive)s" % one for one in violations))
 
 
 def unknown(expect, scenario):
@@ -331,11 +351,27 @@ def of_fetch(key, wanted, cases, passing, sent):
     failed = {name for name, _ in found}
     if found:
         keep_wanted(case, wanted, sent)
+    in_test = list(change_of_test(key, case, wanted)) if "result" in failed else []
     if failed and wanted_refusals.is_meant(wanted):
-        yield from ("  " + line for line in wanted_refusals.lines(case, wanted, failed))
+        yield from ("  " + line for line in [*wanted_refusals.lines(case, wanted, failed), *in_test])
     elif failed:
         passing.append((case.fetch.document.number, case, True, "violations" in failed))
-        yield from ("  " + line for line in lines_of(case, "violations" in failed, failed != {"violations"}))
+        lines = lines_of(case, "violations" in failed, failed != {"violations"})
+        yield from ("  " + line for line in lines + in_test if not (in_test and line == "change: " + NOTHING))
+
+
+def change_of_test(key, case, wanted):
+    """What a test is to say of a URL that this engine never loads, where no change of a policy brings what it wants."""
+    word = "refused" if wanted_refusals.is_meant(wanted) else "no-verdict"
+    came = copy.copy(case.result)
+    came.verdict = "refused" if word == "refused" else "none"
+    if not case.is_unloaded or is_met(wanted["result"], came):
+        return
+    own = [one for one in findings.violations(case) if word == "refused" or one["disposition"] == "report"]
+    is_known = word in (word_of(case), "no-verdict")  # what is to refuse it may not be there yet
+    more = {"violations": wanted.get("violations", short_violations(own))} if is_known else {}
+    meant = json.dumps({"result": word, **more})
+    yield 'change: write "%s": %s in the test, since this engine does not load it' % (key, meant)
 
 
 def keep_wanted(case, wanted, sent):
@@ -353,7 +389,7 @@ def of_case(case, wanted):
         following = [key for key in keys if key in FOLLOWING and case.result.is_refused()]
         keys = [key for key in keys if key not in following]
         more = "; not compared, since it follows: " + edits.listed(following) if following else ""
-        yield "result", "expected %s; it came to %s%s" % (wanted["result"], case.result.short(), more)
+        yield "result", "expected %s; it came to %s%s" % (wanted["result"], came_to(case), more)
     elif wanted_refusals.untested(case, wanted):
         yield "result", "expected %s; it came to %s, but %s" % (
             wanted["result"], case.result.short(), wanted_refusals.untested(case, wanted))
@@ -361,6 +397,14 @@ def of_case(case, wanted):
     if told.get("upgraded"):  # so it was sent elsewhere
         told.pop("sent", None)
     yield from ((key, line) for key, lines in told.items() for line in lines)
+
+
+def came_to(case):
+    """The result; of a URL that this engine never loads with what a browser would make of it."""
+    if not case.is_unloaded:
+        return case.result.short()
+    why = policy_questions.refused_by(case)
+    return "%s, %s%s" % (word_of(case), case.result.short(), ": " + why if why else "")
 
 
 def is_met(wanted, result):

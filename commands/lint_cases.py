@@ -415,6 +415,9 @@ MENDED = {
         "default-src 'none'; font-src a.test; img-src b.test; style-src c.test; report-uri /csp",
     "default-src 'none'; img-src a.test, b.test, font-src c.test":
         "default-src 'none'; img-src a.test b.test; font-src c.test",
+    "default-src 'none'; font a.test; IMG b.test; style c.test":
+        "default-src 'none'; font-src a.test; img-src b.test; style-src c.test",
+    "image a.test; font-src b.test; font b.test": "img-src a.test; font-src b.test",
     "upgrade-insecure-requestsimg-src self": "upgrade-insecure-requests; img-src 'self'",
     "default-src self; connect-src 'self' api.test report-uri /csp": "default-src 'self'; connect-src 'self' api.test; "
                                                                      "report-uri /csp",

@@ -114,12 +114,20 @@ def outcome(case):
 
 def changes_of(case):
     """What to change, by the first way. Where the lines `in all` say it, that of the request alone; of what this engine
-    does not load, that of each policy that refuses it."""
+    does not load, that of each policy that refuses it, or of each that reports it where none does."""
     if case.explanation.needs:
         of_request = [edit for edit in case.explanation.edits if edit["at"] == "request"]
         return [edits.phrase(of_request)] if of_request else []
-    of_policies = [policy.first_change for policy in case.policies_told if policy.enforced]
-    return of_policies if case.is_unloaded and of_policies else [case.explanation.first_change]
+    if not (case.is_unloaded and case.policies_told):
+        return [case.explanation.first_change]
+    refusing = [policy.first_change for policy in case.policies_told if policy.enforced]
+    return refusing or list(map(before_enforced, case.policies_told))
+
+
+def before_enforced(policy):
+    """What to change in a policy that only reports, where that does not say already for how long it is needed."""
+    change = policy.first_change
+    return change + " before it is enforced" if change.endswith("`") else change
 
 
 def upgraded(case):
@@ -135,9 +143,17 @@ def plain(case):
 
 
 def reported(case):
-    """The report-only policies that it violates, each once."""
+    """The report-only policies that it violates, each once, with what to change; of several changes of one of them a
+    line `in all` tells."""
     found = dict.fromkeys((one.policy, one.directive) for one in case.fetch.of("violation") if not one.enforced)
-    return ["policy %d, which only reports, reports it (%s)" % one for one in found]
+    return ["policy %d, which only reports, reports it (%s)%s" % (*one, change_of_report(case, one)) for one in found]
+
+
+def change_of_report(case, reported_by):
+    """The change of a policy that reports by a directive."""
+    own = [one for one in case.policies_told if (one.policy, one.directive) == reported_by]
+    changes = {one.first_change for one in own if one.edits}
+    return ": " + changes.pop() if len(changes) == 1 else ""
 
 
 # ---- the line and the status of bin/ask

@@ -6,12 +6,11 @@ import re
 from collections import namedtuple
 from typing import Any, Optional
 
-from commands.lints import hsts as field_of
+from commands.lints import hsts_values
 from commands.urls import host_of, is_address
 from recorded.model import Entry
 
 Known = namedtuple("Known", "host subdomains until")
-Field = namedtuple("Field", "value")
 DOMAIN = re.compile(r"[a-z0-9_-]+(?:\.[a-z0-9_-]+)*\.?")
 LATEST = 2 ** 48 - 1
 LONGEST = 2 ** 32 - 1  # seconds of a max-age that count
@@ -31,10 +30,9 @@ def noted(entry: Entry) -> Optional[Known]:
 @functools.lru_cache(1024)
 def said_by(value: str) -> Optional[tuple[int, bool]]:
     """The age that a field says, and whether subdomains are with it; None where it is ignored."""
-    field = Field(value)
-    names, age = field_of.names(field), field_of.seconds(field)
-    is_ignored = not field_of.fits(field) or len(set(names)) < len(names) or field_of.subdomains_value(field)
-    return None if is_ignored or age is None else (min(age, LONGEST), "includesubdomains" in names)
+    age = hsts_values.seconds(value)
+    is_ignored = hsts_values.is_ignored(value) or age is None
+    return None if is_ignored else (min(age, LONGEST), "includesubdomains" in hsts_values.names(value))
 
 
 class Book:

@@ -82,7 +82,7 @@ def does_nothing(policy):
 
 def meant_names(policy):
     """The names of directives that are meant by misspelt ones and by those beyond ASCII, which is another lint."""
-    return [one.name if one.is_known else nearest(one.name, grammar.SOURCES + grammar.OTHERS)
+    return [one.name if one.is_known else meant_directive(one.name, policy.effective)
             for one in policy.directives if not (one.is_known and one.text.isascii())]
 
 
@@ -126,7 +126,15 @@ POLICIES = [
 def unknown_directive(directive):
     if directive.is_known or directive.follows_comma or directive.policy.is_pasted or not directive.text.isascii():
         return None
-    return write(nearest(directive.name, grammar.SOURCES + grammar.OTHERS))
+    return write(meant_directive(directive.name, directive.policy.effective))
+
+
+def meant_directive(name, there):
+    """The directive that is meant by a name that is none, or None. `there` are the names that the policy has."""
+    short = grammar.SHORT.get(name)
+    if short:
+        return None if short in there else short
+    return nearest(name, grammar.SOURCES + grammar.OTHERS)
 
 
 def with_sign(directive):

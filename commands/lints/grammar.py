@@ -19,6 +19,8 @@ OBSOLETE = {
     "reflected-xss": "take it out, and keep injected scripts away by `script-src`",
     "require-sri-for": "send the header Integrity-Policy",
 }
+# Names that only miss what stands behind them, and are too short to come near to one by their letters.
+SHORT = {"font": "font-src", "img": "img-src", "image": "img-src", "images": "img-src"}
 DIRECTIVES = SOURCES + OTHERS + tuple(OBSOLETE)
 NO_WORDS = ("block-all-mixed-content", "upgrade-insecure-requests")
 

@@ -9,8 +9,8 @@ from collections import namedtuple
 
 from commands import csp
 from commands.lints import grammar, lints_of
-from commands.lints.csp import comma, is_web_host, misspelt_header, obsolete_header
-from commands.lints.entry import DOCUMENT, nearest
+from commands.lints.csp import comma, is_web_host, meant_directive, misspelt_header, obsolete_header
+from commands.lints.entry import DOCUMENT
 from commands.lints.policies import PASTED, Policy, is_swallowed, pieces
 from commands.lints.reading import Field, Headers, topics_of
 
@@ -212,8 +212,7 @@ def of_header(field):
 
 def joint(policy, is_split):
     """What is meant by the comma before a policy."""
-    names = grammar.SOURCES + grammar.OTHERS
-    return "; " if is_split or nearest(policy.directives[0].name, names) else " "
+    return "; " if is_split or meant_directive(policy.directives[0].name, ()) else " "
 
 
 def mended(headers, at, name, number, text):
@@ -296,21 +295,22 @@ def split(words):
 def standing(text, name, is_known):
     """How a policy's text has a directive: the names of all that stand in one part of it, since semicolons are missing,
     and that part, where it begins with no directive as it is written; or None."""
+    there = {part.split()[0].lower() for part in text.split(";") if part.split()}
     for part in filter(str.split, text.split(";")):
         first, *others = [one[0].lower() for one in split([piece.text for piece in pieces(part)])]
-        meant = meant_name(first, part)
+        meant = meant_name(first, part, there)
         names = [meant or first, *others]
         if name in names and (others or meant and not is_known):
             return names, part.strip() if meant else None
     return [name], None
 
 
-def meant_name(name, part):
-    """The name of the directive that is meant by one that is none, or is not ASCII."""
+def meant_name(name, part, there):
+    """The name of the directive that is meant by one that is none, or is not ASCII. `there` are those of the policy."""
     if name in grammar.DIRECTIVES:
         return None if part.isascii() else name
     bare = name.rstrip(":=")
-    return bare if bare in grammar.DIRECTIVES else nearest(name, grammar.SOURCES + grammar.OTHERS)
+    return bare if bare in grammar.DIRECTIVES else meant_directive(name, there)
 
 
 def of_words(directive):
