@@ -206,6 +206,18 @@ POLICIES = {
 }
 PLAIN = "http://shop.test/"
 UNDER = "http://www.shop.test"
+WWW = "https://www.shop.test"
+
+
+def forgotten(commands, page):
+    """Behind an answer by which www.shop.test, known beside the host above it, is forgotten."""
+    commands = commands if isinstance(commands, list) else [commands]
+    wide = [{"host": host, "subdomains": True, "until": 10} for host in ("shop.test", "www.shop.test")]
+    rules = [rule(200, [["Strict-Transport-Security", "max-age=0"]], path="/off"),
+             rule(200, [["Strict-Transport-Security", "max-age=600"]], path="/on"), rule(200, [STAR])]
+    return scenario([load("image", WWW + "/off"), *commands], rules, WWW, page=page, hsts=wide)
+
+
 # http URLs whose hosts were meant to be known ones.
 HOSTS = {
     "a parent that covers no name below it": scenario(
@@ -240,6 +252,12 @@ HOSTS = {
         hsts=[{"host": "www.shop.test", "subdomains": False, "until": 10}]),
     "a known host, and mixed content": scenario(
         fetch("http://api.test/x"), [rule(200, [OK])], hsts=[{"host": "api.test", "subdomains": False, "until": 10}]),
+    "a host that is forgotten, below a known one": forgotten(fetch(UNDER + "/x"), PLAIN),
+    "a host that is known again, below a known one": forgotten(
+        [load("image", WWW + "/on"), fetch(UNDER + "/x")], PLAIN),
+    "a host below a known one, and mixed content": forgotten(fetch(UNDER + "/x"), PAGE + "/"),
+    "a page below a known host, mode same-origin": forgotten(
+        fetch(UNDER + "/x", mode="same-origin"), UNDER + "/"),
     "a URL that is upgraded to no server": scenario(
         fetch("http://api.test/x"), [rule(200, [OK])], "http://api.test",
         headers=[[POLICY, "upgrade-insecure-requests"]]),

@@ -9,6 +9,7 @@ from functools import cached_property
 from urllib.parse import urlsplit
 
 from commands import answers, csp, edits, guards
+from commands.known_hosts import AT_FIRST, KNOWN_ITSELF
 from commands.needs import (ALLOW_CREDENTIALS, ALLOW_HEADERS, ALLOW_METHODS, ALLOW_ORIGIN, EXPOSE_HEADERS, KEPT_METHODS,
                             TOKEN, Needs, each_once, items_of, missed, unseen)
 from commands.play_text import header_of, is_preflight
@@ -72,6 +73,7 @@ class Case:
         self.document = scenario.documents()[fetch.document.number]
         self.about = None
         self.plain_reasons = []  # why the URLs of the chain stay http, as known_hosts.py has it
+        self.known_by = []  # which known hosts theirs are, or are below
         self.asked_by_test = []  # the headers that a test wants the script to see
         self.kept_out = []  # what a test wants the page's policies to be violated by, as csp.Asked
 
@@ -989,7 +991,12 @@ class Case:
     @property
     def but_known(self):
         """That its host is known, where the URL was refused before that was looked up."""
-        return "; " + self.stays_plain if self.stays_plain.startswith("its host is") else ""
+        return "; " + self.stays_plain if self.stays_plain.endswith(AT_FIRST) else ""
+
+    @property
+    def why_known(self):
+        """By which known host the last URL of the chain becomes one of https."""
+        return self.known_by[-1] if len(self.known_by) == len(self.hops) else KNOWN_ITSELF
 
     @property
     def is_to_be_secure(self):

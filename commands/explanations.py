@@ -238,8 +238,8 @@ BEFORE_SENDING = UNLOADED + [
         "{change}{c.too_late}", MIXED, changes.ask_secure_or_upgrade),
     *POLICIES,
     Way("same-origin/known-host", "5", lambda c: c.is_known_host and not c.is_redirected,
-        "the host is a known one (HSTS), so the URL becomes https, which is another origin than {c.page_origin}; and the mode "
-        "is same-origin", "", "{change}", FETCH, changes.secure_page),
+        "{c.why_known}, so the URL becomes https, which is another origin than {c.page_origin}; and the mode is "
+        "same-origin", "", "{change}", FETCH, changes.secure_page),
     Way("same-origin/redirect", "5", lambda c: c.is_redirected,
         "the mode is same-origin, and the redirect leads to another origin, {c.url_origin}", "Location",
         "{change}; in mode cors the server sends its CORS headers", FETCH, changes.redirect_within),

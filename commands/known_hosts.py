@@ -7,6 +7,8 @@ from commands.play_text import is_preflight
 from commands.urls import host_of, is_address, is_trustworthy, scheme_of
 
 FIELD = "Strict-Transport-Security"
+KNOWN_ITSELF = "its host is a known one (HSTS)"
+AT_FIRST = " looked at first"
 LOOKED_AT_FIRST = {2: "bad ports are", 3: "mixed content is", 4: "policies are"}
 LONGEST = 80  # characters of a field
 # `until` is the first second in which a host is not known any more; of one that was forgotten it is 0.
@@ -41,7 +43,7 @@ def clock(case):
 
 
 def tell(scenario, cases):
-    """Says of each case of a play, in their order, why its URLs stay http."""
+    """Says of each case of a play, in their order, why its URLs stay http, and by which known hosts they do not."""
     hosts, books = named(scenario), {}
     by_site = sites(hosts)
     for case in cases:
@@ -77,7 +79,9 @@ class Book:
         for event in case.fetch.events:
             is_sent = event.kind == "send" and not is_preflight(event)
             if is_sent or event.kind == "result":
-                found += [self.reason(case, hop) for hop in case.hops[len(found):len(found) + 1]]
+                for hop in case.hops[len(found):len(found) + 1]:
+                    case.known_by.append(self.known_by(hop, clock(case)))
+                    found.append(self.reason(case, hop))
             if event.kind == "call" and event.op == "note":
                 self.note(*event.words)
         self.look_at_fields(case)
@@ -107,22 +111,33 @@ class Book:
             return ""
         now = clock(case)
         names = [host, *names_above(host)]
-        is_known = any(self.covers(name, host) and self.hosts[name].until > now for name in names)
+        is_known = self.nearest_known(host, now) is not None
         if is_known or hop.origin is None:  # what was refused before the list is asked
             return self.of_order(case, hop) if is_known else ""
         return (self.of_parent(names, now) or self.of_term(names, now) or self.of_field(names)
                 or self.of_zero(names) or self.of_neighbour(host, now))
 
+    def nearest_known(self, host, now):
+        """The host itself, or the nearest above it that is known with its subdomains; None where there is none."""
+        names = (name for name in [host, *names_above(host)] if self.covers(name, host))
+        return next((name for name in names if self.hosts[name].until > now), None)
+
+    def known_by(self, hop, now):
+        """That a URL's host is known, or which one above it is."""
+        host = host_of(hop.asked)
+        name = self.nearest_known(host, now)
+        is_above = name is not None and name != host
+        return "%s is a known host (HSTS) with its subdomains, which covers %s" % (name, host) if is_above else KNOWN_ITSELF
+
     def covers(self, name, host):
         return name in self.hosts and (name == host or self.hosts[name].subdomains)
 
-    @staticmethod
-    def of_order(case, hop):
+    def of_order(self, case, hop):
         """The host is known, and the URL was refused before that was looked up. At a good port a secure page's would be
         refused as mixed content."""
         is_looked_up = hop.origin is not None or case.result.is_fault or (case.result.number == 2 and case.is_secure)
         first = None if is_looked_up else LOOKED_AT_FIRST.get(case.result.number)
-        return "its host is a known one (HSTS), but %s looked at first" % first if first else ""
+        return "%s, but %s%s" % (self.known_by(hop, clock(case)), first, AT_FIRST) if first else ""
 
     def of_parent(self, names, now):
         parent = next((name for name in names[1:] if name in self.hosts and self.hosts[name].until > now), None)
