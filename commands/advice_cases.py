@@ -218,6 +218,14 @@ def forgotten(commands, page):
     return scenario([load("image", WWW + "/off"), *commands], rules, WWW, page=page, hsts=wide)
 
 
+def noted(origin, *fields):
+    """An http URL of this origin, behind an answer of https://shop.test with these fields."""
+    return scenario(
+        [load("image", PAGE + "/i.png"), fetch(origin + "/x")],
+        [rule(200, [["Strict-Transport-Security", field] for field in fields])], PAGE, page="http://page.test/",
+        servers=[{"origin": origin, "rules": [rule(200, [STAR])]}])
+
+
 # http URLs whose hosts were meant to be known ones.
 HOSTS = {
     "a parent that covers no name below it": scenario(
@@ -232,6 +240,16 @@ HOSTS = {
         [load("image", "/i.png"), fetch(UNDER + "/x")],
         [rule(200, [["Strict-Transport-Security", "max-age=600; includeSubDomains"]])], "http://shop.test", page=PLAIN,
         servers=[{"origin": UNDER, "rules": [rule(200, [STAR])]}]),
+    "a field with a quote that does not close, and no includeSubDomains": noted(UNDER, 'max-age="600'),
+    "the same, and includeSubDomains": noted(UNDER, 'max-age="600; includeSubDomains'),
+    "the same of the host itself": noted("http://shop.test", 'max-age="600'),
+    "one without includeSubDomains that came over http": scenario(
+        [load("image", "/i.png"), fetch(UNDER + "/x")],
+        [rule(200, [["Strict-Transport-Security", "max-age=600"]])], "http://shop.test", page=PLAIN,
+        servers=[{"origin": UNDER, "rules": [rule(200, [STAR])]}]),
+    "two fields, of which the first is max-age=0": noted("http://shop.test", "max-age=0", "max-age=600"),
+    "the same of a known host": {
+        **noted("http://shop.test", "max-age=0", "max-age=600"), "hsts": KNOWN["hsts"]},
     "a host beside a known one": scenario(
         fetch(UNDER + "/x"), [rule(200, [STAR])], UNDER, page=PLAIN,
         hsts=[{"host": "api.shop.test", "subdomains": True, "until": 10}]),

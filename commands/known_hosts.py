@@ -63,6 +63,20 @@ def why_unknown(url):
     return "nothing tells of a known host (HSTS) that %s is, or is below" % host
 
 
+def field_of(host, count):
+    """The field of a host that counts."""
+    if count == 1:
+        return "the %s of %s" % (FIELD, host)
+    return "the first %s of %s, which alone counts of %d," % (FIELD, host, count)
+
+
+def narrow(value, is_below):
+    """What a field that is ignored lacks besides, where it was to cover a name below its host."""
+    from commands.lints.hsts_values import whole  # where one is ignored
+    is_narrow = is_below and not set(whole(value).split("; ")) & {"max-age=0", "includeSubDomains"}
+    return ", and it has no includeSubDomains" if is_narrow else ""
+
+
 class Book:
     """What a document has learnt by the fetch that is looked at: of each host when it is known, and which fields were
     ignored."""
@@ -71,6 +85,7 @@ class Book:
         self.hosts = ChainMap({}, hosts)
         self.by_site = ChainMap({}, by_site)
         self.ignored = {}  # the scheme, the first field, and how many there were
+        self.counts = {}  # of fields, the first of which was noted, where there were several
         self.never = set()  # hosts whose answer said max-age=0, though they were not known
 
     def reasons(self, case):
@@ -97,13 +112,17 @@ class Book:
         else:
             self.never.add(host)
         self.ignored.pop(host, None)
+        self.counts.pop(host, None)
 
     def look_at_fields(self, case):
         noted = {event.words[0] for event in case.fetch.of("call") if event.op == "note"}
         for request, answer in case.exchanges:
             values = answer.head.values(FIELD) if answer and answer.head else []
-            if values and host_of(request.origin) not in noted:
-                self.ignored[host_of(request.origin)] = (scheme_of(request.origin), values[0], len(values))
+            host = host_of(request.origin)
+            if values and host not in noted:
+                self.ignored[host] = (scheme_of(request.origin), values[0], len(values))
+            if len(values) > 1 and host in noted:
+                self.counts[host] = len(values)
 
     def reason(self, case, hop):
         host = host_of(hop.asked)
@@ -150,11 +169,14 @@ class Book:
             return ""
         until = self.hosts[ended].until
         how = "until second %d, and it is second %d" % (until, now) if until else "until an answer said max-age=0"
+        if not until and ended in self.counts:
+            how += " in the first %s, which alone counts of %d" % (FIELD, self.counts[ended])
         return "%s was a known host (HSTS) %s" % (ended, how)
 
     def of_zero(self, names):
         name = next((name for name in names if name in self.never), None)
-        return "the %s of %s said max-age=0, and that makes no known host" % (FIELD, name) if name else ""
+        said = "%s said max-age=0, and that makes no known host"
+        return said % field_of(name, self.counts.get(name, 1)) if name else ""
 
     def of_neighbour(self, host, now):
         other = self.by_site.get(site_of(host))
@@ -168,8 +190,6 @@ class Book:
             return ""
         scheme, value, count = self.ignored[name]
         if scheme == "http":
-            return "the %s of %s came over http, where it is ignored" % (FIELD, name)
-        value = value if len(value) <= LONGEST else value[:LONGEST] + ".."
-        which = "the %s of %s" % (FIELD, name) if count == 1 else "the first %s of %s, which alone counts of %d," % (
-            FIELD, name, count)
-        return "%s is ignored: `%s`" % (which, value)
+            return "the %s of %s came over http, where it is ignored%s" % (FIELD, name, narrow(value, name != names[0]))
+        told = value if len(value) <= LONGEST else value[:LONGEST] + ".."
+        return "%s is ignored: `%s`%s" % (field_of(name, count), told, narrow(value, name != names[0]))
