@@ -229,7 +229,9 @@ BEFORE_SENDING = UNLOADED + [
         "mixed-content.md#bad-ports-fetch-section-29-port-blocking", changes.other_port),
     Way("mixed/ip-address", "3", lambda c: c.is_upgradeable_address,
         "the page is secure, and {c.url}{c.where} is not: images, audio and video become https by themselves, but not where "
-        "the host is an IP address", "", "{change}; or give the server a name", MIXED, changes.ask_secure_or_upgrade),
+        "the host is an IP address", "",
+        "{change}; or give the server a name, let it answer over https under that name, and ask by it", MIXED,
+        changes.ask_secure_or_upgrade),
     Way("mixed/top", "3", lambda c: c.is_embedded and not c.page_origin.startswith("https:"),
         "the page at the top, {c.top_origin}, is secure, and {c.url}{c.where} is not: what is embedded may not be "
         "laxer{c.but_known}", "", "{change}{c.too_late}", MIXED, changes.ask_secure_or_upgrade),
