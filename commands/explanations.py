@@ -357,7 +357,8 @@ DIRECT = [
 
 LINKS = [
     Way("link/no-route", "24", lambda c: c.route is None, "no route of the scenario is for {c.request.origin}", "",
-        "add one: [\"{c.request.origin}\", \"127.0.0.1:8000\"]; scheme and port must be these",
+        "add a route, [\"{c.request.origin}\", ADDRESS], where ADDRESS is where your server listens, such as "
+        "\"127.0.0.1:8000\"; the origin is to be written so",
         "../check-your-server.md#what-the-scenario-says"),
     Way("link/bad-address", "24", lambda c: c.link == "bad-address",
         "the route's address `{c.route}` is none: a host or an IP address, a colon and a port", "",
