@@ -241,6 +241,7 @@ HOSTS = {
         [rule(200, [["Strict-Transport-Security", "max-age=600; includeSubDomains"]])], "http://shop.test", page=PLAIN,
         servers=[{"origin": UNDER, "rules": [rule(200, [STAR])]}]),
     "a field with a quote that does not close, and no includeSubDomains": noted(UNDER, 'max-age="600'),
+    "a field with typographic quotes": noted("http://shop.test", "max-age=\u201c600\u201d"),
     "the same, and includeSubDomains": noted(UNDER, 'max-age="600; includeSubDomains'),
     "the same of the host itself": noted("http://shop.test", 'max-age="600'),
     "one without includeSubDomains that came over http": scenario(

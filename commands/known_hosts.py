@@ -191,5 +191,7 @@ class Book:
         scheme, value, count = self.ignored[name]
         if scheme == "http":
             return "the %s of %s came over http, where it is ignored%s" % (FIELD, name, narrow(value, name != names[0]))
-        told = value if len(value) <= LONGEST else value[:LONGEST] + ".."
+        from commands.lints.hsts_values import as_unicode  # where one is ignored
+        text = as_unicode(value)
+        told = text if len(text) <= LONGEST else text[:LONGEST] + ".."
         return "%s is ignored: `%s`%s" % (field_of(name, count), told, narrow(value, name != names[0]))
