@@ -218,6 +218,14 @@ def forgotten(commands, page):
     return scenario([load("image", WWW + "/off"), *commands], rules, WWW, page=page, hsts=wide)
 
 
+def beside_own(*urls):
+    """Mixed content, and what is asked of this machine. One that is over https is a server alone."""
+    asked = [fetch(url) for url in urls if url.startswith("http:")]
+    return scenario([*asked, fetch("http://api.test/x")], [rule(200, [STAR])], "http://localhost:3000", servers=[
+        {"origin": origin, "rules": [rule(200, [STAR])]} for origin in ("http://127.0.0.1", API, *urls[1:])
+        if origin.count("/") == 2])
+
+
 def noted(origin, *fields):
     """An http URL of this origin, behind an answer of https://shop.test with these fields."""
     return scenario(
@@ -269,6 +277,10 @@ HOSTS = {
     "a term that has ended": scenario(
         [{"wait": 20}, fetch(UNDER + "/x")], [rule(200, [STAR])], UNDER, page=PLAIN,
         hsts=[{"host": "www.shop.test", "subdomains": False, "until": 10}]),
+    "mixed content beside an own URL": beside_own("http://localhost:3000/x"),
+    "mixed content beside an own URL over https": beside_own("http://localhost:3000/x", "https://localhost:3000"),
+    "mixed content beside two own URLs": beside_own("http://localhost:3000/x", "http://127.0.0.1/y"),
+    "mixed content beside an own URL that is refused": beside_own("http://localhost:9999/x"),
     "a known host, and mixed content": scenario(
         fetch("http://api.test/x"), [rule(200, [OK])], hsts=[{"host": "api.test", "subdomains": False, "until": 10}]),
     "a host that is forgotten, below a known one": forgotten(fetch(UNDER + "/x"), PLAIN),

@@ -26,6 +26,7 @@ GZIP = b"\x1f\x8b"
 LOCAL = ("data", "blob")
 SOCKETS = ("ws", "wss")
 # What made a URL one of https, in words.
+MOST_UNSERVED = 3
 CAUSES = {"hsts": "HSTS", "policy": "upgrade-insecure-requests", "mixed": "mixed content"}
 # A policy that a request violates: its number and disposition, the effective directive, the URL that it was asked of, and
 # whether a redirect led there, or it was that of the response.
@@ -997,6 +998,17 @@ class Case:
     def why_known(self):
         """By which known host the last URL of the chain becomes one of https."""
         return self.known_by[-1] if len(self.known_by) == len(self.hops) else KNOWN_ITSELF
+
+    @property
+    def unserved(self):
+        """Some of the http URLs of this machine that the page loads, whose hosts have no https server in the scenario."""
+        document = self.fetch.document
+        if document.own_plain is None:
+            passing = [one for one in document.fetches if any(not result.is_refused() for result in one.of("result"))]
+            urls = dict.fromkeys(joined(one.command.url, self.document["url"]) for one in passing)
+            own = [url for url in urls if scheme_of(url) == "http" and is_trustworthy(url)]
+            document.own_plain = [url for url in own if self.scenario.server_of(origin_of(secure(url))) is None]
+        return [] if self.is_net else document.own_plain[:MOST_UNSERVED]
 
     @property
     def is_to_be_secure(self):
