@@ -257,6 +257,11 @@ HOSTS = {
         [rule(200, [["Strict-Transport-Security", "max-age=600"]])], "http://shop.test", page=PLAIN,
         servers=[{"origin": UNDER, "rules": [rule(200, [STAR])]}]),
     "two fields, of which the first is max-age=0": noted("http://shop.test", "max-age=0", "max-age=600"),
+    "two fields over http, which leads to one of max-age=0": scenario(
+        [load("image", "http://shop.test/go"), fetch("http://shop.test/x")], [
+            led(PAGE + "/i.png", 302, *[["Strict-Transport-Security", "max-age=600"]] * 2, path="/go"),
+            rule(200, [STAR])], "http://shop.test", page="http://page.test/", servers=[
+            {"origin": PAGE, "rules": [rule(200, [["Strict-Transport-Security", "max-age=0"]])]}]),
     "the same of a known host": {
         **noted("http://shop.test", "max-age=0", "max-age=600"), "hsts": KNOWN["hsts"]},
     "a host beside a known one": scenario(

@@ -1001,7 +1001,7 @@ class Case:
 
     @property
     def unserved(self):
-        """Some of the http URLs of this machine that the page loads, whose hosts have no https server in the scenario."""
+        """Some of the http URLs of this machine that the page loads, whose hosts have no https server there."""
         document = self.fetch.document
         if document.own_plain is None:
             passing = [one for one in document.fetches if any(not result.is_refused() for result in one.of("result"))]

@@ -10,7 +10,8 @@ answer, page, request or scenario), and `set`, `remove` or `add` what, with its 
     {"at": "page", "policy": 0, "set": "img-src", "value": "'self'", "behind": "style-src"}
     {"at": "page", "policy": 0, "set": "img-src", "value": "'self'", "commas": ["font-src"]}
     {"at": "page", "add": "Content-Security-Policy", "value": "upgrade-insecure-requests"}
-    {"at": "page", "add": "Content-Security-Policy", "value": "upgrade-insecure-requests", "unserved": ["http://localhost/x"]}
+    {"at": "page", "add": "Content-Security-Policy", "value": "upgrade-insecure-requests",
+     "unserved": ["http://localhost/x"]}
     {"at": "request", "set": "mode", "value": "cors"}
     {"at": "scenario", "set": "body_limit", "value": 1048576}
 

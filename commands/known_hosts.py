@@ -70,6 +70,14 @@ def field_of(host, count):
     return "the first %s of %s, which alone counts of %d," % (FIELD, host, count)
 
 
+def is_first_of_several(origin, values):
+    """Whether an answer has several fields, and its host is noted by the first."""
+    if len(values) < 2 or scheme_of(origin) != "https":
+        return False
+    from commands.lints.hsts_values import is_ignored  # where there are several
+    return not is_ignored(values[0])
+
+
 def narrow(value, is_below):
     """What a field that is ignored lacks besides, where it was to cover a name below its host."""
     from commands.lints.hsts_values import whole  # where one is ignored
@@ -121,7 +129,7 @@ class Book:
             host = host_of(request.origin)
             if values and host not in noted:
                 self.ignored[host] = (scheme_of(request.origin), values[0], len(values))
-            if len(values) > 1 and host in noted:
+            if host in noted and is_first_of_several(request.origin, values):
                 self.counts[host] = len(values)
 
     def reason(self, case, hop):
@@ -145,8 +153,9 @@ class Book:
         """That a URL's host is known, or which one above it is."""
         host = host_of(hop.asked)
         name = self.nearest_known(host, now)
-        is_above = name is not None and name != host
-        return "%s is a known host (HSTS) with its subdomains, which covers %s" % (name, host) if is_above else KNOWN_ITSELF
+        if name in (None, host):
+            return KNOWN_ITSELF
+        return "%s is a known host (HSTS) with its subdomains, which covers %s" % (name, host)
 
     def covers(self, name, host):
         return name in self.hosts and (name == host or self.hosts[name].subdomains)
