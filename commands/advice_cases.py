@@ -206,6 +206,34 @@ POLICIES = {
 }
 PLAIN = "http://shop.test/"
 UNDER = "http://www.shop.test"
+WWW = "https://www.shop.test"
+
+
+def forgotten(commands, page):
+    """Behind an answer by which www.shop.test, known beside the host above it, is forgotten."""
+    commands = commands if isinstance(commands, list) else [commands]
+    wide = [{"host": host, "subdomains": True, "until": 10} for host in ("shop.test", "www.shop.test")]
+    rules = [rule(200, [["Strict-Transport-Security", "max-age=0"]], path="/off"),
+             rule(200, [["Strict-Transport-Security", "max-age=600"]], path="/on"), rule(200, [STAR])]
+    return scenario([load("image", WWW + "/off"), *commands], rules, WWW, page=page, hsts=wide)
+
+
+def beside_own(*urls):
+    """Mixed content, and what is asked of this machine. One that is over https is a server alone."""
+    asked = [fetch(url) for url in urls if url.startswith("http:")]
+    return scenario([*asked, fetch("http://api.test/x")], [rule(200, [STAR])], "http://localhost:3000", servers=[
+        {"origin": origin, "rules": [rule(200, [STAR])]} for origin in ("http://127.0.0.1", API, *urls[1:])
+        if origin.count("/") == 2])
+
+
+def noted(origin, *fields):
+    """An http URL of this origin, behind an answer of https://shop.test with these fields."""
+    return scenario(
+        [load("image", PAGE + "/i.png"), fetch(origin + "/x")],
+        [rule(200, [["Strict-Transport-Security", field] for field in fields])], PAGE, page="http://page.test/",
+        servers=[{"origin": origin, "rules": [rule(200, [STAR])]}])
+
+
 # http URLs whose hosts were meant to be known ones.
 HOSTS = {
     "a parent that covers no name below it": scenario(
@@ -220,6 +248,22 @@ HOSTS = {
         [load("image", "/i.png"), fetch(UNDER + "/x")],
         [rule(200, [["Strict-Transport-Security", "max-age=600; includeSubDomains"]])], "http://shop.test", page=PLAIN,
         servers=[{"origin": UNDER, "rules": [rule(200, [STAR])]}]),
+    "a field with a quote that does not close, and no includeSubDomains": noted(UNDER, 'max-age="600'),
+    "a field with typographic quotes": noted("http://shop.test", "max-age=\u201c600\u201d"),
+    "the same, and includeSubDomains": noted(UNDER, 'max-age="600; includeSubDomains'),
+    "the same of the host itself": noted("http://shop.test", 'max-age="600'),
+    "one without includeSubDomains that came over http": scenario(
+        [load("image", "/i.png"), fetch(UNDER + "/x")],
+        [rule(200, [["Strict-Transport-Security", "max-age=600"]])], "http://shop.test", page=PLAIN,
+        servers=[{"origin": UNDER, "rules": [rule(200, [STAR])]}]),
+    "two fields, of which the first is max-age=0": noted("http://shop.test", "max-age=0", "max-age=600"),
+    "two fields over http, which leads to one of max-age=0": scenario(
+        [load("image", "http://shop.test/go"), fetch("http://shop.test/x")], [
+            led(PAGE + "/i.png", 302, *[["Strict-Transport-Security", "max-age=600"]] * 2, path="/go"),
+            rule(200, [STAR])], "http://shop.test", page="http://page.test/", servers=[
+            {"origin": PAGE, "rules": [rule(200, [["Strict-Transport-Security", "max-age=0"]])]}]),
+    "the same of a known host": {
+        **noted("http://shop.test", "max-age=0", "max-age=600"), "hsts": KNOWN["hsts"]},
     "a host beside a known one": scenario(
         fetch(UNDER + "/x"), [rule(200, [STAR])], UNDER, page=PLAIN,
         hsts=[{"host": "api.shop.test", "subdomains": True, "until": 10}]),
@@ -238,8 +282,18 @@ HOSTS = {
     "a term that has ended": scenario(
         [{"wait": 20}, fetch(UNDER + "/x")], [rule(200, [STAR])], UNDER, page=PLAIN,
         hsts=[{"host": "www.shop.test", "subdomains": False, "until": 10}]),
+    "mixed content beside an own URL": beside_own("http://localhost:3000/x"),
+    "mixed content beside an own URL over https": beside_own("http://localhost:3000/x", "https://localhost:3000"),
+    "mixed content beside two own URLs": beside_own("http://localhost:3000/x", "http://127.0.0.1/y"),
+    "mixed content beside an own URL that is refused": beside_own("http://localhost:9999/x"),
     "a known host, and mixed content": scenario(
         fetch("http://api.test/x"), [rule(200, [OK])], hsts=[{"host": "api.test", "subdomains": False, "until": 10}]),
+    "a host that is forgotten, below a known one": forgotten(fetch(UNDER + "/x"), PLAIN),
+    "a host that is known again, below a known one": forgotten(
+        [load("image", WWW + "/on"), fetch(UNDER + "/x")], PLAIN),
+    "a host below a known one, and mixed content": forgotten(fetch(UNDER + "/x"), PAGE + "/"),
+    "a page below a known host, mode same-origin": forgotten(
+        fetch(UNDER + "/x", mode="same-origin"), UNDER + "/"),
     "a URL that is upgraded to no server": scenario(
         fetch("http://api.test/x"), [rule(200, [OK])], "http://api.test",
         headers=[[POLICY, "upgrade-insecure-requests"]]),

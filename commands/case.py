@@ -9,6 +9,7 @@ from functools import cached_property
 from urllib.parse import urlsplit
 
 from commands import answers, csp, edits, guards
+from commands.known_hosts import AT_FIRST, KNOWN_ITSELF
 from commands.needs import (ALLOW_CREDENTIALS, ALLOW_HEADERS, ALLOW_METHODS, ALLOW_ORIGIN, EXPOSE_HEADERS, KEPT_METHODS,
                             TOKEN, Needs, each_once, items_of, missed, unseen)
 from commands.play_text import header_of, is_preflight
@@ -25,6 +26,7 @@ GZIP = b"\x1f\x8b"
 LOCAL = ("data", "blob")
 SOCKETS = ("ws", "wss")
 # What made a URL one of https, in words.
+MOST_UNSERVED = 3
 CAUSES = {"hsts": "HSTS", "policy": "upgrade-insecure-requests", "mixed": "mixed content"}
 # A policy that a request violates: its number and disposition, the effective directive, the URL that it was asked of, and
 # whether a redirect led there, or it was that of the response.
@@ -72,6 +74,7 @@ class Case:
         self.document = scenario.documents()[fetch.document.number]
         self.about = None
         self.plain_reasons = []  # why the URLs of the chain stay http, as known_hosts.py has it
+        self.known_by = []  # which known hosts theirs are, or are below
         self.asked_by_test = []  # the headers that a test wants the script to see
         self.is_secret_wanted = False  # whether a test wants a cookie or Authorization to be sent
         self.kept_out = []  # what a test wants the page's policies to be violated by, as csp.Asked
@@ -991,7 +994,23 @@ class Case:
     @property
     def but_known(self):
         """That its host is known, where the URL was refused before that was looked up."""
-        return "; " + self.stays_plain if self.stays_plain.startswith("its host is") else ""
+        return "; " + self.stays_plain if self.stays_plain.endswith(AT_FIRST) else ""
+
+    @property
+    def why_known(self):
+        """By which known host the last URL of the chain becomes one of https."""
+        return self.known_by[-1] if len(self.known_by) == len(self.hops) else KNOWN_ITSELF
+
+    @property
+    def unserved(self):
+        """Some of the http URLs of this machine that the page loads, whose hosts have no https server there."""
+        document = self.fetch.document
+        if document.own_plain is None:
+            passing = [one for one in document.fetches if any(not result.is_refused() for result in one.of("result"))]
+            urls = dict.fromkeys(joined(one.command.url, self.document["url"]) for one in passing)
+            own = [url for url in urls if scheme_of(url) == "http" and is_trustworthy(url)]
+            document.own_plain = [url for url in own if self.scenario.server_of(origin_of(secure(url))) is None]
+        return [] if self.is_net else document.own_plain[:MOST_UNSERVED]
 
     @property
     def is_to_be_secure(self):

@@ -54,7 +54,7 @@ def ask_secure_or_upgrade(c):
     """Or the page has all its URLs upgraded, which says nothing against a server without https."""
     url = secure(c.url)
     server = missing_server(c, url)
-    return [lead_to(url, c) + server, [edits.upgrade_policy(), *server]]
+    return [lead_to(url, c) + server, [edits.upgrade_policy(c.unserved), *server]]
 
 
 def with_scheme(c):

@@ -10,6 +10,8 @@ answer, page, request or scenario), and `set`, `remove` or `add` what, with its 
     {"at": "page", "policy": 0, "set": "img-src", "value": "'self'", "behind": "style-src"}
     {"at": "page", "policy": 0, "set": "img-src", "value": "'self'", "commas": ["font-src"]}
     {"at": "page", "add": "Content-Security-Policy", "value": "upgrade-insecure-requests"}
+    {"at": "page", "add": "Content-Security-Policy", "value": "upgrade-insecure-requests",
+     "unserved": ["http://localhost/x"]}
     {"at": "request", "set": "mode", "value": "cors"}
     {"at": "scenario", "set": "body_limit", "value": 1048576}
 
@@ -54,9 +56,10 @@ def page(name, value):
     return {"at": "page", "set": name, "value": value}
 
 
-def upgrade_policy():
-    """A policy beside those that are there."""
-    return {"at": "page", "add": "Content-Security-Policy", "value": "upgrade-insecure-requests"}
+def upgrade_policy(unserved=()):
+    """A policy beside those that are there. `unserved` are URLs that it upgrades to where no server is."""
+    more = {"unserved": list(unserved)} if unserved else {}
+    return {"at": "page", "add": "Content-Security-Policy", "value": "upgrade-insecure-requests", **more}
 
 
 def request(name, value):
@@ -172,10 +175,16 @@ def answer_named(edits, before):
 
 def of_page(edits, before):
     moved = ["serve the page as %s" % edit["value"] for edit in edits if edit.get("set") == "url"]
-    added = ["serve the page with `%s: %s`, by which all that it loads over http is asked for over https" % (
-        edit["add"], edit["value"]) for edit in edits if "add" in edit]
+    added = ["serve the page with `%s: %s`, by which all that it loads over http is asked for over https%s" % (
+        edit["add"], edit["value"], of_unserved(edit)) for edit in edits if "add" in edit]
     said = [of_policy(list(own)) for _, own in groupby((edit for edit in edits if "policy" in edit), policy_of)]
     return listed([*moved, *added, *(["let " + listed(said)] if said else [])])
+
+
+def of_unserved(edit):
+    urls = edit.get("unserved", [])
+    have = "has" if len(urls) == 1 else "have"
+    return ": %s too, which %s no https server" % (listed(urls), have) if urls else ""
 
 
 def shortened(text):

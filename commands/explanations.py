@@ -229,7 +229,9 @@ BEFORE_SENDING = UNLOADED + [
         "mixed-content.md#bad-ports-fetch-section-29-port-blocking", changes.other_port),
     Way("mixed/ip-address", "3", lambda c: c.is_upgradeable_address,
         "the page is secure, and {c.url}{c.where} is not: images, audio and video become https by themselves, but not where "
-        "the host is an IP address", "", "{change}; or give the server a name", MIXED, changes.ask_secure_or_upgrade),
+        "the host is an IP address", "",
+        "{change}; or give the server a name, let it answer over https under that name, and ask by it", MIXED,
+        changes.ask_secure_or_upgrade),
     Way("mixed/top", "3", lambda c: c.is_embedded and not c.page_origin.startswith("https:"),
         "the page at the top, {c.top_origin}, is secure, and {c.url}{c.where} is not: what is embedded may not be "
         "laxer{c.but_known}", "", "{change}{c.too_late}", MIXED, changes.ask_secure_or_upgrade),
@@ -238,8 +240,8 @@ BEFORE_SENDING = UNLOADED + [
         "{change}{c.too_late}", MIXED, changes.ask_secure_or_upgrade),
     *POLICIES,
     Way("same-origin/known-host", "5", lambda c: c.is_known_host and not c.is_redirected,
-        "the host is a known one (HSTS), so the URL becomes https, which is another origin than {c.page_origin}; and the mode "
-        "is same-origin", "", "{change}", FETCH, changes.secure_page),
+        "{c.why_known}, so the URL becomes https, which is another origin than {c.page_origin}; and the mode is "
+        "same-origin", "", "{change}", FETCH, changes.secure_page),
     Way("same-origin/redirect", "5", lambda c: c.is_redirected,
         "the mode is same-origin, and the redirect leads to another origin, {c.url_origin}", "Location",
         "{change}; in mode cors the server sends its CORS headers", FETCH, changes.redirect_within),
@@ -355,7 +357,8 @@ DIRECT = [
 
 LINKS = [
     Way("link/no-route", "24", lambda c: c.route is None, "no route of the scenario is for {c.request.origin}", "",
-        "add one: [\"{c.request.origin}\", \"127.0.0.1:8000\"]; scheme and port must be these",
+        "add a route, [\"{c.request.origin}\", ADDRESS], where ADDRESS is where your server listens, such as "
+        "\"127.0.0.1:8000\"; the origin is to be written so",
         "../check-your-server.md#what-the-scenario-says"),
     Way("link/bad-address", "24", lambda c: c.link == "bad-address",
         "the route's address `{c.route}` is none: a host or an IP address, a colon and a port", "",

@@ -7,6 +7,8 @@ from commands.play_text import is_preflight
 from commands.urls import host_of, is_address, is_trustworthy, scheme_of
 
 FIELD = "Strict-Transport-Security"
+KNOWN_ITSELF = "its host is a known one (HSTS)"
+AT_FIRST = " looked at first"
 LOOKED_AT_FIRST = {2: "bad ports are", 3: "mixed content is", 4: "policies are"}
 LONGEST = 80  # characters of a field
 # `until` is the first second in which a host is not known any more; of one that was forgotten it is 0.
@@ -41,7 +43,7 @@ def clock(case):
 
 
 def tell(scenario, cases):
-    """Says of each case of a play, in their order, why its URLs stay http."""
+    """Says of each case of a play, in their order, why its URLs stay http, and by which known hosts they do not."""
     hosts, books = named(scenario), {}
     by_site = sites(hosts)
     for case in cases:
@@ -61,6 +63,28 @@ def why_unknown(url):
     return "nothing tells of a known host (HSTS) that %s is, or is below" % host
 
 
+def field_of(host, count):
+    """The field of a host that counts."""
+    if count == 1:
+        return "the %s of %s" % (FIELD, host)
+    return "the first %s of %s, which alone counts of %d," % (FIELD, host, count)
+
+
+def is_first_of_several(origin, values):
+    """Whether an answer has several fields, and its host is noted by the first."""
+    if len(values) < 2 or scheme_of(origin) != "https":
+        return False
+    from commands.lints.hsts_values import is_ignored  # where there are several
+    return not is_ignored(values[0])
+
+
+def narrow(value, is_below):
+    """What a field that is ignored lacks besides, where it was to cover a name below its host."""
+    from commands.lints.hsts_values import whole  # where one is ignored
+    is_narrow = is_below and not set(whole(value).split("; ")) & {"max-age=0", "includeSubDomains"}
+    return ", and it has no includeSubDomains" if is_narrow else ""
+
+
 class Book:
     """What a document has learnt by the fetch that is looked at: of each host when it is known, and which fields were
     ignored."""
@@ -69,6 +93,7 @@ class Book:
         self.hosts = ChainMap({}, hosts)
         self.by_site = ChainMap({}, by_site)
         self.ignored = {}  # the scheme, the first field, and how many there were
+        self.counts = {}  # of fields, the first of which was noted, where there were several
         self.never = set()  # hosts whose answer said max-age=0, though they were not known
 
     def reasons(self, case):
@@ -77,7 +102,9 @@ class Book:
         for event in case.fetch.events:
             is_sent = event.kind == "send" and not is_preflight(event)
             if is_sent or event.kind == "result":
-                found += [self.reason(case, hop) for hop in case.hops[len(found):len(found) + 1]]
+                for hop in case.hops[len(found):len(found) + 1]:
+                    case.known_by.append(self.known_by(hop, clock(case)))
+                    found.append(self.reason(case, hop))
             if event.kind == "call" and event.op == "note":
                 self.note(*event.words)
         self.look_at_fields(case)
@@ -93,13 +120,17 @@ class Book:
         else:
             self.never.add(host)
         self.ignored.pop(host, None)
+        self.counts.pop(host, None)
 
     def look_at_fields(self, case):
         noted = {event.words[0] for event in case.fetch.of("call") if event.op == "note"}
         for request, answer in case.exchanges:
             values = answer.head.values(FIELD) if answer and answer.head else []
-            if values and host_of(request.origin) not in noted:
-                self.ignored[host_of(request.origin)] = (scheme_of(request.origin), values[0], len(values))
+            host = host_of(request.origin)
+            if values and host not in noted:
+                self.ignored[host] = (scheme_of(request.origin), values[0], len(values))
+            if host in noted and is_first_of_several(request.origin, values):
+                self.counts[host] = len(values)
 
     def reason(self, case, hop):
         host = host_of(hop.asked)
@@ -107,22 +138,34 @@ class Book:
             return ""
         now = clock(case)
         names = [host, *names_above(host)]
-        is_known = any(self.covers(name, host) and self.hosts[name].until > now for name in names)
+        is_known = self.nearest_known(host, now) is not None
         if is_known or hop.origin is None:  # what was refused before the list is asked
             return self.of_order(case, hop) if is_known else ""
         return (self.of_parent(names, now) or self.of_term(names, now) or self.of_field(names)
                 or self.of_zero(names) or self.of_neighbour(host, now))
 
+    def nearest_known(self, host, now):
+        """The host itself, or the nearest above it that is known with its subdomains; None where there is none."""
+        names = (name for name in [host, *names_above(host)] if self.covers(name, host))
+        return next((name for name in names if self.hosts[name].until > now), None)
+
+    def known_by(self, hop, now):
+        """That a URL's host is known, or which one above it is."""
+        host = host_of(hop.asked)
+        name = self.nearest_known(host, now)
+        if name in (None, host):
+            return KNOWN_ITSELF
+        return "%s is a known host (HSTS) with its subdomains, which covers %s" % (name, host)
+
     def covers(self, name, host):
         return name in self.hosts and (name == host or self.hosts[name].subdomains)
 
-    @staticmethod
-    def of_order(case, hop):
+    def of_order(self, case, hop):
         """The host is known, and the URL was refused before that was looked up. At a good port a secure page's would be
         refused as mixed content."""
         is_looked_up = hop.origin is not None or case.result.is_fault or (case.result.number == 2 and case.is_secure)
         first = None if is_looked_up else LOOKED_AT_FIRST.get(case.result.number)
-        return "its host is a known one (HSTS), but %s looked at first" % first if first else ""
+        return "%s, but %s%s" % (self.known_by(hop, clock(case)), first, AT_FIRST) if first else ""
 
     def of_parent(self, names, now):
         parent = next((name for name in names[1:] if name in self.hosts and self.hosts[name].until > now), None)
@@ -135,11 +178,14 @@ class Book:
             return ""
         until = self.hosts[ended].until
         how = "until second %d, and it is second %d" % (until, now) if until else "until an answer said max-age=0"
+        if not until and ended in self.counts:
+            how += " in the first %s, which alone counts of %d" % (FIELD, self.counts[ended])
         return "%s was a known host (HSTS) %s" % (ended, how)
 
     def of_zero(self, names):
         name = next((name for name in names if name in self.never), None)
-        return "the %s of %s said max-age=0, and that makes no known host" % (FIELD, name) if name else ""
+        said = "%s said max-age=0, and that makes no known host"
+        return said % field_of(name, self.counts.get(name, 1)) if name else ""
 
     def of_neighbour(self, host, now):
         other = self.by_site.get(site_of(host))
@@ -153,8 +199,8 @@ class Book:
             return ""
         scheme, value, count = self.ignored[name]
         if scheme == "http":
-            return "the %s of %s came over http, where it is ignored" % (FIELD, name)
-        value = value if len(value) <= LONGEST else value[:LONGEST] + ".."
-        which = "the %s of %s" % (FIELD, name) if count == 1 else "the first %s of %s, which alone counts of %d," % (
-            FIELD, name, count)
-        return "%s is ignored: `%s`" % (which, value)
+            return "the %s of %s came over http, where it is ignored%s" % (FIELD, name, narrow(value, name != names[0]))
+        from commands.lints.hsts_values import as_unicode  # where one is ignored
+        text = as_unicode(value)
+        told = text if len(text) <= LONGEST else text[:LONGEST] + ".."
+        return "%s is ignored: `%s`%s" % (field_of(name, count), told, narrow(value, name != names[0]))

@@ -264,6 +264,7 @@ HSTS_MEANT = [
     ("preload; max-age=", "max-age=31536000; preload"), ('max-age=""', YEAR), ("max-age=''", YEAR),
     ("max-age=600 includeSubDomains", "max-age=600; includeSubDomains"),
     ('max-age="600" includeSubDomains', "max-age=600; includeSubDomains"),
+    ('max-age="600"includeSubDomains', "max-age=600; includeSubDomains"),
     ("max-age=600, includeSubDomains", "max-age=600; includeSubDomains"),
     ("max-age=31,536,000; includeSubDomains", "max-age=31536000; includeSubDomains"),
     ("max-age: 600; includeSubDomains", "max-age=600; includeSubDomains"),
@@ -294,6 +295,22 @@ HSTS_PRELOADED = {
     "max-age=600; preload": YEAR + "; includeSubDomains; preload",
     "max-age=600; includeSubDomains; preload": YEAR + "; includeSubDomains; preload",
     "max-age=63072000; preload": "max-age=63072000; includeSubDomains; preload",
+}
+# The values of several fields, and what is said to send: each that may be meant.
+HSTS_TWICE = [
+    ([YEAR, YEAR], "send one: `max-age=31536000`"),
+    (["max-age=600", YEAR + "; includeSubDomains"],
+     "send one: `max-age=600`, or `max-age=31536000; includeSubDomains`, as it is meant"),
+    (["max-age=0", YEAR], "send one: `max-age=0`, or `max-age=31536000`, as it is meant"),
+    (["max-age='600'", "max-age=600"], "send one: `max-age=600`"),
+    (["max-age=600", "max-age=700", "max-age=800"],
+     "send one: `max-age=600`, or `max-age=700` or `max-age=800`, as it is meant"),
+]
+# Values that lack a semicolon before a directive, and those whose quotes are none that fit.
+HSTS_JOINED = {
+    'max-age="600"includeSubDomains': "hsts/semicolon-missing",
+    'max-age="600" includeSubDomains': "hsts/semicolon-missing", 'max-age="600"x': "hsts/max-age-quotes",
+    'max-age="600': "hsts/max-age-quotes", 'max-age=600"; includeSubDomains': "hsts/max-age-quotes",
 }
 # What is said of the fields of a page: its URL, their values, and the lints, without which a browser notes the host.
 HSTS_PAGES = [

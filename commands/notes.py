@@ -1,10 +1,12 @@
 """What is to be said of a fetch whatever came of it: which of its URLs became https and why, and which of its headers
 are not sent."""
+from itertools import zip_longest
+
 from commands import guards
+from commands.known_hosts import KNOWN_ITSELF
 from commands.urls import host_of, is_trustworthy, secure
 
 UPGRADES = {
-    "hsts": "its host is a known one (HSTS)",
     "policy": "a policy of the page has `upgrade-insecure-requests`",
     "mixed": "a secure page asks for images, audio and video over https (mixed content)",
 }
@@ -27,10 +29,10 @@ def dropped(case):
 
 
 def upgrades(case):
-    for hop in case.hops:
+    for hop, known_by in zip_longest(case.hops, case.known_by, fillvalue=KNOWN_ITSELF):
         cause = case.upgrade_of(hop)
         if cause and host_of(hop.asked):
-            yield "%s became %s: %s" % (hop.asked, secure(hop.asked), UPGRADES[cause])
+            yield "%s became %s: %s" % (hop.asked, secure(hop.asked), UPGRADES.get(cause, known_by))
         if is_own(case, hop):
             yield LOOPBACK % hop.asked
 

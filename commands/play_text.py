@@ -90,6 +90,7 @@ class Document:
         self.key = key
         self.line = line
         self.fetches = []
+        self.own_plain = None  # of this machine, as case.py has it
         self.ending = self.last = None
 
 

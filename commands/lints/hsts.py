@@ -87,8 +87,11 @@ def with_unit(value):
 
 
 def blank_between(value):
-    found = re.match(r'"?[0-9]+"?[ \t]+([A-Za-z].*)', raw_age(value) or "")
-    return found and Meant(found.group(1).strip(QUOTES), whole(value))
+    """What stands behind max-age with blanks between, or a known name that stands at once behind its quotes."""
+    found = re.match(r'"?[0-9]+"?([ \t]*)([A-Za-z].*)', raw_age(value) or "")
+    text = found and found.group(2).strip(QUOTES)
+    is_other = found and (found.group(1) or (found.group()[0] == '"' and nearest(text, KNOWN)))
+    return is_other and Meant(text, whole(value))
 
 
 def quoted_age(value):
@@ -160,7 +163,11 @@ def counts(field):
 
 
 def sent_twice(field):
-    return field.count > 1 and field.is_last
+    """The values as they are meant, each once: which of them is to stay is not known, where they differ."""
+    if field.count == 1 or not field.is_last:
+        return None
+    first, *others = dict.fromkeys(whole(value.strip(" \t")) for value in field.headers.values(field.name)[:64])
+    return Meant("", first, ", or `%s`, as it is meant" % "` or `".join(others[:2]) if others else "")
 
 
 def is_local(host):
@@ -240,7 +247,8 @@ IGNORED = "the header is ignored: "
 TABLE = [Lint(one.name, HEADER, said_as(one.name), IGNORED + one.wrong, one.fix) for one in REASONS] + [
     Lint("hsts/unknown-directive", HEADER, unknown_part, "a directive is skipped, which is nearly `{meant.text}`",
          "write `{meant.whole}`"),
-    Lint("hsts/sent-twice", HEADER, sent_twice, "the header stands twice, and the first one alone counts", "send one"),
+    Lint("hsts/sent-twice", HEADER, sent_twice, "the header stands twice, and the first one alone counts",
+         "send one: `{meant.whole}`{meant.other}"),
     Lint("hsts/over-http", HEADER, over_http, "the header is ignored over http",
          "send it with answers over https, where http redirects to"),
     Lint("hsts/on-an-address", HEADER, of_address,
