@@ -721,6 +721,8 @@ class Case:
         """In a word: read, refused, hidden (the script sees nothing of the answer), or none."""
         if self.result.is_refused():
             return "none" if self.is_open else "refused"
+        if self.is_spoilt:
+            return "refused"
         return "hidden" if self.result.type in ("opaque", "opaqueredirect") else "read"
 
     # ---- the end of a fetch
@@ -770,13 +772,23 @@ class Case:
     @property
     def is_short(self):
         """Whether it has a body that did not come whole, be that seen by the script or by the integrity check."""
-        return self.result.ending == "cut" or self.result.is_refused()
+        return self.result.ending == "cut" or self.result.is_refused() or self.is_spoilt
+
+    @property
+    def unread(self):
+        """What is wrong in the body of what an element loads, which the engine did not read (codings.py), or None."""
+        return getattr(self.answer, "unread", None) if self.result.type == "loaded" else None
+
+    @property
+    def is_spoilt(self):
+        """Whether an element does not load what the engine lets it, for its body."""
+        return self.is_direct and self.result.type == "loaded" and (self.unread is not None or len(self.lengths) > 1)
 
     @property
     def cut(self):
         """What is wrong in a coded body that was decoded here (codings.py), or None."""
         stream = getattr(self.answer, "stream", None)
-        return stream.cut if stream else None
+        return stream.cut or self.unread if stream else None
 
     @property
     def wrong_coding(self):
@@ -800,11 +812,6 @@ class Case:
     @property
     def says_gzip(self):
         return self.coding.split(",")[-1].strip().lower() in ("gzip", "x-gzip")
-
-    @property
-    def is_no_gzip(self):
-        """Whether Content-Encoding says gzip, and the body, as it came, begins otherwise."""
-        return self.says_gzip and not GZIP.startswith(self.answer.sent()[:2])
 
     @property
     def but_gzip(self):

@@ -13,6 +13,7 @@ except ImportError:
 STEP = 65536  # the most bytes that are decoded at once
 BROTLI_STEP = 16  # bytes that go into the decoder of br, which gives all that they stand for
 MOST_CODINGS = 4
+MOST_MADE = 1 << 24  # bytes that are decoded of a body which the engine does not read
 LAST_CHUNK = b"0\r\n\r\n"
 NO_BODY = (101, 103, 204, 205, 304)
 ERRORS = (zlib.error,) if brotli is None else (zlib.error, brotli.error)
@@ -29,6 +30,10 @@ class Cut(Exception):
 
 class Broken(Exception):
     """The connection failed."""
+
+
+class Unknown(Exception):
+    """What is still to come of a body is not waited for."""
 
 
 class Inflate:
@@ -205,6 +210,26 @@ def framing_of(head):
         return lambda pieces: pieces
     length = length_of(head.get("Content-Length"))
     return None if length is None else lambda pieces: counted(pieces, length)
+
+
+def fault_in(head, pieces, names):
+    """What is wrong in a body that the engine does not read, a Cut; None where nothing is, or where it is not known."""
+    framing, made = framing_of(head), 0
+    if framing is None or head.status in NO_BODY:
+        return None
+    pieces = framing(pieces)
+    for name in itertools.takewhile(decoder, reversed(names[-MOST_CODINGS:])):
+        pieces = decoded(pieces, name)
+    try:
+        for piece in pieces:
+            made += len(piece)
+            if made > MOST_MADE:
+                return None
+    except Unknown:
+        return None
+    except Cut as cut:
+        return cut
+    return None
 
 
 def length_of(value):

@@ -443,7 +443,7 @@ SEEN = [
     Way("seen/opaqueredirect", "s", lambda c: c.result.type == "opaqueredirect",
         "the answer redirects ({c.status}), and the redirect mode is manual: the script does not see where to", "Location",
         "{change}: the URL of the response is the last one", "responses.md#types", changes.follow),
-    Way("seen/body-cut", "s", lambda c: c.result.ending == "cut",
+    Way("seen/body-cut", "s", lambda c: c.result.ending == "cut" or c.is_spoilt,
         "the body ends before the end that its head announced, or does not fit it", "Content-Length",
         "send all of it, and its right length", "answers.md#the-body", changes.right_length),
     Way("seen/body-hang", "s", lambda c: c.result.ending == "fault" and c.is_silent,
