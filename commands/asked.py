@@ -177,6 +177,7 @@ class Answered:
         found += ["%s: %s" % (one.origin, one.note) for one in self.wire.exchanges if one.note]
         found += [note for one in self.wire.exchanges for note in self.of_coding(one)]
         found += [self.of_unread(case) for case in self.told.cases if case.result.type == "loaded"]
+        found += map(self.of_packed, self.told.cases)
         found += lints.notes(self.told)
         return list(dict.fromkeys(filter(None, found)))
 
@@ -197,6 +198,14 @@ class Answered:
             return None
         return "%s: its body was not read: Content-Encoding says %s%s" % (
             case.request.origin, case.coding, case.but_gzip)
+
+    def of_packed(self, case):
+        """What is to be said of a body that begins as gzip does, where no coding is named, or None."""
+        if case.answer is None or not case.is_packed:
+            return None
+        said = "Content-Encoding says `%s`" % case.coding if case.coding else "the answer has no Content-Encoding"
+        return "%s: the body begins as gzip does, and %s: the page gets it packed: send `Content-Encoding: gzip`%s" % (
+            case.request.origin, said, " in its place" if case.coding else "")
 
     def of_cookies(self):
         """What is to be said of the cookies that were given, or None."""

@@ -8,7 +8,7 @@ from collections import namedtuple
 from functools import cached_property
 from urllib.parse import urlsplit
 
-from commands import answers, csp, edits, guards
+from commands import answers, csp, edits, guards, results
 from commands.known_hosts import AT_FIRST, KNOWN_ITSELF
 from commands.needs import (ALLOW_CREDENTIALS, ALLOW_HEADERS, ALLOW_METHODS, ALLOW_ORIGIN, EXPOSE_HEADERS, KEPT_METHODS,
                             TOKEN, Needs, each_once, items_of, missed, unseen)
@@ -22,6 +22,7 @@ CHUNK_LINE = re.compile(rb"([0-9a-fA-F]{1,16})[^\r\n]*\r\n")
 REDIRECTS = (301, 302, 303, 307, 308)
 MOST_REDIRECTS = 20
 GZIP = b"\x1f\x8b"
+ARCHIVES = ("gzip", "/octet-stream", "tgz")  # ends of the types of files that are to stay packed
 # Schemes that a browser loads by itself, and this engine does not.
 LOCAL = ("data", "blob")
 SOCKETS = ("ws", "wss")
@@ -808,6 +809,16 @@ class Case:
     def is_gzip(self):
         """Whether the body, as it came, begins as gzip does, and Content-Encoding says another coding."""
         return not self.says_gzip and self.answer.sent()[:2] == GZIP
+
+    @property
+    def is_packed(self):
+        """Whether the page gets a body of gzip packed, since no coding is named, and nothing says that it is an
+        archive."""
+        if not results.is_met("read", self.result) or self.is_spoilt or not self.is_gzip or not self.has_body:
+            return False
+        is_coded = any(word.strip().lower() not in ("", "identity") for word in self.coding.split(","))
+        is_file = any(urlsplit(request.target).path.lower().endswith((".gz", ".tgz")) for request, _ in self.chain)
+        return not is_coded and not is_file and not self.essence.endswith(ARCHIVES)
 
     @property
     def says_gzip(self):
