@@ -890,9 +890,31 @@ class Case:
     def or_length(self):
         return ", or let Content-Length say %d" % self.count if self.is_of_text else ""
 
+    @cached_property
+    def coding_end(self):
+        """How many bytes the coded body has that is cut, where what came shows it, or None."""
+        from commands import codings  # which bin/ask alone needs
+        return codings.end_of(self.answer.data[self.head.end:], self.cut_coding)
+
     @property
-    def and_length(self):
-        return "" if self.wrong_length is None else ", and its right length"
+    def is_length_short(self):
+        """Whether Content-Length is what cuts a coded body: more came than it says."""
+        if self.cut_coding is None or self.wrong_length is None or self.count < self.wrong_length:
+            return False
+        return self.coding_end is None or self.coding_end > self.wrong_length
+
+    @property
+    def cutting_header(self):
+        return "Content-Length" if self.is_length_short else "Content-Encoding"
+
+    @property
+    def whole_coding(self):
+        """What to do that a coded body comes whole."""
+        if not self.is_length_short:
+            return "send all of it" if self.wrong_length is None else "send all of it, and its right length"
+        if self.coding_end is None:
+            return "leave Content-Length out, or let it say how many bytes there are"
+        return "let Content-Length say %d" % self.coding_end
 
     @property
     def is_too_big(self):

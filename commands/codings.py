@@ -46,6 +46,10 @@ class Inflate:
     def is_over(self):
         return self.machine is not None and self.machine.eof
 
+    def rest(self):
+        """The bytes behind its end."""
+        return self.machine.unused_data
+
     def steps(self, data):
         """What the next bytes stand for, a step at a time."""
         if self.machine is None:
@@ -229,6 +233,24 @@ def fault_in(head, pieces, names):
         return None
     except Cut as cut:
         return cut
+    return None
+
+
+def end_of(data, coding):
+    """How many of these bytes the body of a coding takes; None where that is not known: it does not end in them, or its
+    decoder does not say where."""
+    own, made = decoder(coding), 0
+    if not isinstance(own, Inflate):
+        return None
+    for at in range(0, len(data), STEP):
+        try:
+            made += sum(map(len, own.steps(data[at:at + STEP])))
+        except ERRORS:
+            return None
+        if own.is_over():
+            return min(at + STEP, len(data)) - len(own.rest())
+        if made > MOST_MADE:
+            return None
     return None
 
 

@@ -134,6 +134,18 @@ class Wire:
         # Broken chunks are read by some browsers: of a framing its early end alone is a fault.
         exchange.unread = fault if fault and (fault.coding or exchange.is_ended) else None
 
+    def look_behind(self):
+        """Takes what comes soon behind the length of a body whose coding is cut there."""
+        exchange = self.exchanges[-1] if self.exchanges else None
+        cut = (exchange.stream.cut or exchange.unread) if exchange else None
+        if cut is None or cut.coding is None or cut.is_other or self.socket is None or exchange.failure:
+            return
+        try:
+            for _ in self.soon(exchange, len(exchange.answer)):
+                pass
+        except codings.Unknown:
+            pass
+
     def soon(self, exchange, start):
         """What came of a body, which begins at `start`, and what comes soon."""
         until = time.monotonic() + min(SOON, max(self.deadline - time.monotonic(), 0))
@@ -232,6 +244,7 @@ class Page:
         self.act(fetch)
         if kind is not None and isinstance(fetch.outcome, fiorrudda.Loaded):
             self.wire.look_on()
+        self.wire.look_behind()
         self.wire.close()
         self.lines += printed.outcome_lines(self.as_it_came(fetch.outcome, request), kind is not None)
 
