@@ -875,7 +875,10 @@ class Case:
     def is_of_text(self):
         """Whether Content-Length is the length of the text before it was compressed."""
         stream = getattr(self.answer, "stream", None)
-        return stream is not None and stream.is_opened and self.wrong_length == len(self.answer.body())
+        if stream is None or self.wrong_length is None:
+            return False
+        made = len(self.answer.body()) if stream.is_opened else self.unread and self.unread.made
+        return self.wrong_length == made
 
     @property
     def whole_again(self):

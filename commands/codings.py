@@ -21,11 +21,12 @@ ERRORS = (zlib.error,) if brotli is None else (zlib.error, brotli.error)
 
 class Cut(Exception):
     """The body ends before its framing or its coding does, or does not fit it: in a sentence. `coding` is the coding
-    that it is about, where it is about one, and `is_other` says that the body is none of it."""
+    that it is about, where it is about one, and `is_other` says that the body is none of it. `made` is how many bytes
+    were decoded until then, of a body that the engine does not read."""
 
     def __init__(self, sentence, coding=None, is_other=False):
         super().__init__(sentence)
-        self.coding, self.is_other = coding, is_other
+        self.coding, self.is_other, self.made = coding, is_other, None
 
 
 class Broken(Exception):
@@ -232,6 +233,7 @@ def fault_in(head, pieces, names):
     except Unknown:
         return None
     except Cut as cut:
+        cut.made = made
         return cut
     return None
 
