@@ -177,6 +177,7 @@ class Answered:
         found += ["%s: %s" % (one.origin, one.note) for one in self.wire.exchanges if one.note]
         found += [note for one in self.wire.exchanges for note in self.of_coding(one)]
         found += [self.of_unread(case) for case in self.told.cases if case.result.type == "loaded"]
+        found += map(self.of_packed, self.told.cases)
         found += lints.notes(self.told)
         return list(dict.fromkeys(filter(None, found)))
 
@@ -192,20 +193,19 @@ class Answered:
                 exchange.origin, ", ".join(stream.lacks), ": %s does it" % packages[0] if packages else "")
 
     def of_unread(self, case):
-        """What is wrong in the body of what an element loads, where the engine did not read it; None where nothing is
-        known to be."""
-        if case.answer is None or case.answer.stream.is_opened:
+        """What is to be said of the body of what an element loads, where nothing here decodes it, or None."""
+        if case.is_spoilt or not (case.answer and case.answer.stream.lacks and case.is_gzip):
             return None
-        fault = None
-        if len(case.lengths) > 1:
-            fault = "the answer has %s, and both browsers make that a network error" % case.lengths_told
-        elif case.answer.is_ended:
-            fault = "it is cut" + case.but_length
-        elif case.is_no_gzip:
-            fault = "it is not gzip, as Content-Encoding says"
-        elif case.coding and case.is_gzip:
-            fault = "Content-Encoding says %s%s" % (case.coding, case.but_gzip)
-        return "%s: its body was not read: %s" % (case.request.origin, fault) if fault else None
+        return "%s: its body was not read: Content-Encoding says %s%s" % (
+            case.request.origin, case.coding, case.but_gzip)
+
+    def of_packed(self, case):
+        """What is to be said of a body that begins as gzip does, where no coding is named, or None."""
+        if case.answer is None or not case.is_packed:
+            return None
+        said = "Content-Encoding says `%s`" % case.coding if case.coding else "the answer has no Content-Encoding"
+        return "%s: the body begins as gzip does, and %s: the page gets it packed: send `Content-Encoding: gzip`%s" % (
+            case.request.origin, said, " in its place" if case.coding else "")
 
     def of_cookies(self):
         """What is to be said of the cookies that were given, or None."""
@@ -245,7 +245,7 @@ class Came(answers.Answer):
     def __init__(self, exchange):
         super().__init__(exchange.answer, link=exchange.link)
         self.stream = exchange.stream
-        self.is_ended = exchange.is_ended and exchange.is_short
+        self.unread = exchange.unread
 
     def framed(self, rest):
         return self.stream.body.joined() if self.stream.is_opened else super().framed(rest)

@@ -8,7 +8,7 @@ from collections import namedtuple
 from functools import cached_property
 from urllib.parse import urlsplit
 
-from commands import answers, csp, edits, guards
+from commands import answers, csp, edits, guards, results
 from commands.known_hosts import AT_FIRST, KNOWN_ITSELF
 from commands.needs import (ALLOW_CREDENTIALS, ALLOW_HEADERS, ALLOW_METHODS, ALLOW_ORIGIN, EXPOSE_HEADERS, KEPT_METHODS,
                             TOKEN, Needs, each_once, items_of, missed, unseen)
@@ -22,6 +22,7 @@ CHUNK_LINE = re.compile(rb"([0-9a-fA-F]{1,16})[^\r\n]*\r\n")
 REDIRECTS = (301, 302, 303, 307, 308)
 MOST_REDIRECTS = 20
 GZIP = b"\x1f\x8b"
+ARCHIVES = ("gzip", "/octet-stream", "tgz")  # ends of the types of files that are to stay packed
 # Schemes that a browser loads by itself, and this engine does not.
 LOCAL = ("data", "blob")
 SOCKETS = ("ws", "wss")
@@ -721,6 +722,8 @@ class Case:
         """In a word: read, refused, hidden (the script sees nothing of the answer), or none."""
         if self.result.is_refused():
             return "none" if self.is_open else "refused"
+        if self.is_spoilt:
+            return "refused"
         return "hidden" if self.result.type in ("opaque", "opaqueredirect") else "read"
 
     # ---- the end of a fetch
@@ -770,13 +773,23 @@ class Case:
     @property
     def is_short(self):
         """Whether it has a body that did not come whole, be that seen by the script or by the integrity check."""
-        return self.result.ending == "cut" or self.result.is_refused()
+        return self.result.ending == "cut" or self.result.is_refused() or self.is_spoilt
+
+    @property
+    def unread(self):
+        """What is wrong in the body of what an element loads, which the engine did not read (codings.py), or None."""
+        return getattr(self.answer, "unread", None) if self.result.type == "loaded" else None
+
+    @property
+    def is_spoilt(self):
+        """Whether an element does not load what the engine lets it, for its body."""
+        return self.is_direct and self.result.type == "loaded" and (self.unread is not None or len(self.lengths) > 1)
 
     @property
     def cut(self):
         """What is wrong in a coded body that was decoded here (codings.py), or None."""
         stream = getattr(self.answer, "stream", None)
-        return stream.cut if stream else None
+        return stream.cut or self.unread if stream else None
 
     @property
     def wrong_coding(self):
@@ -798,13 +811,18 @@ class Case:
         return not self.says_gzip and self.answer.sent()[:2] == GZIP
 
     @property
-    def says_gzip(self):
-        return self.coding.split(",")[-1].strip().lower() in ("gzip", "x-gzip")
+    def is_packed(self):
+        """Whether the page gets a body of gzip packed, since no coding is named, and nothing says that it is an
+        archive."""
+        if not results.is_met("read", self.result) or self.is_spoilt or not self.is_gzip or not self.has_body:
+            return False
+        is_coded = any(word.strip().lower() not in ("", "identity") for word in self.coding.split(","))
+        is_file = any(urlsplit(request.target).path.lower().endswith((".gz", ".tgz")) for request, _ in self.chain)
+        return not is_coded and not is_file and not self.essence.endswith(ARCHIVES)
 
     @property
-    def is_no_gzip(self):
-        """Whether Content-Encoding says gzip, and the body, as it came, begins otherwise."""
-        return self.says_gzip and not GZIP.startswith(self.answer.sent()[:2])
+    def says_gzip(self):
+        return self.coding.split(",")[-1].strip().lower() in ("gzip", "x-gzip")
 
     @property
     def but_gzip(self):
@@ -857,7 +875,10 @@ class Case:
     def is_of_text(self):
         """Whether Content-Length is the length of the text before it was compressed."""
         stream = getattr(self.answer, "stream", None)
-        return stream is not None and stream.is_opened and self.wrong_length == len(self.answer.body())
+        if stream is None or self.wrong_length is None:
+            return False
+        made = len(self.answer.body()) if stream.is_opened else self.unread and self.unread.made
+        return self.wrong_length == made
 
     @property
     def whole_again(self):
@@ -872,9 +893,31 @@ class Case:
     def or_length(self):
         return ", or let Content-Length say %d" % self.count if self.is_of_text else ""
 
+    @cached_property
+    def coding_end(self):
+        """How many bytes the coded body has that is cut, where what came shows it, or None."""
+        from commands import codings  # which bin/ask alone needs
+        return codings.end_of(self.answer.data[self.head.end:], self.cut_coding)
+
     @property
-    def and_length(self):
-        return "" if self.wrong_length is None else ", and its right length"
+    def is_length_short(self):
+        """Whether Content-Length is what cuts a coded body: more came than it says."""
+        if self.cut_coding is None or self.wrong_length is None or self.count < self.wrong_length:
+            return False
+        return self.coding_end is None or self.coding_end > self.wrong_length
+
+    @property
+    def cutting_header(self):
+        return "Content-Length" if self.is_length_short else "Content-Encoding"
+
+    @property
+    def whole_coding(self):
+        """What to do that a coded body comes whole."""
+        if not self.is_length_short:
+            return "send all of it" if self.wrong_length is None else "send all of it, and its right length"
+        if self.coding_end is None:
+            return "leave Content-Length out, or let it say how many bytes there are"
+        return "let Content-Length say %d" % self.coding_end
 
     @property
     def is_too_big(self):

@@ -13,6 +13,7 @@ except ImportError:
 STEP = 65536  # the most bytes that are decoded at once
 BROTLI_STEP = 16  # bytes that go into the decoder of br, which gives all that they stand for
 MOST_CODINGS = 4
+MOST_MADE = 1 << 24  # bytes that are decoded of a body which the engine does not read
 LAST_CHUNK = b"0\r\n\r\n"
 NO_BODY = (101, 103, 204, 205, 304)
 ERRORS = (zlib.error,) if brotli is None else (zlib.error, brotli.error)
@@ -20,15 +21,20 @@ ERRORS = (zlib.error,) if brotli is None else (zlib.error, brotli.error)
 
 class Cut(Exception):
     """The body ends before its framing or its coding does, or does not fit it: in a sentence. `coding` is the coding
-    that it is about, where it is about one, and `is_other` says that the body is none of it."""
+    that it is about, where it is about one, and `is_other` says that the body is none of it. `made` is how many bytes
+    were decoded until then, of a body that the engine does not read."""
 
     def __init__(self, sentence, coding=None, is_other=False):
         super().__init__(sentence)
-        self.coding, self.is_other = coding, is_other
+        self.coding, self.is_other, self.made = coding, is_other, None
 
 
 class Broken(Exception):
     """The connection failed."""
+
+
+class Unknown(Exception):
+    """What is still to come of a body is not waited for."""
 
 
 class Inflate:
@@ -40,6 +46,10 @@ class Inflate:
 
     def is_over(self):
         return self.machine is not None and self.machine.eof
+
+    def rest(self):
+        """The bytes behind its end."""
+        return self.machine.unused_data
 
     def steps(self, data):
         """What the next bytes stand for, a step at a time."""
@@ -205,6 +215,45 @@ def framing_of(head):
         return lambda pieces: pieces
     length = length_of(head.get("Content-Length"))
     return None if length is None else lambda pieces: counted(pieces, length)
+
+
+def fault_in(head, pieces, names):
+    """What is wrong in a body that the engine does not read, a Cut; None where nothing is, or where it is not known."""
+    framing, made = framing_of(head), 0
+    if framing is None or head.status in NO_BODY:
+        return None
+    pieces = framing(pieces)
+    for name in itertools.takewhile(decoder, reversed(names[-MOST_CODINGS:])):
+        pieces = decoded(pieces, name)
+    try:
+        for piece in pieces:
+            made += len(piece)
+            if made > MOST_MADE:
+                return None
+    except Unknown:
+        return None
+    except Cut as cut:
+        cut.made = made
+        return cut
+    return None
+
+
+def end_of(data, coding):
+    """How many of these bytes the body of a coding takes; None where that is not known: it does not end in them, or its
+    decoder does not say where."""
+    own, made = decoder(coding), 0
+    if not isinstance(own, Inflate):
+        return None
+    for at in range(0, len(data), STEP):
+        try:
+            made += sum(map(len, own.steps(data[at:at + STEP])))
+        except ERRORS:
+            return None
+        if own.is_over():
+            return min(at + STEP, len(data)) - len(own.rest())
+        if made > MOST_MADE:
+            return None
+    return None
 
 
 def length_of(value):

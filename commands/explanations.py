@@ -313,8 +313,7 @@ ANSWERS = [
         "the body is not {c.wrong_coding}, as Content-Encoding says{c.but_gzip}", "Content-Encoding",
         "{c.right_coding}", "../ask.md"),
     Way("body/coding-cut", "22 s", lambda c: c.is_short and c.cut_coding is not None,
-        "the {c.cut_coding} body is cut{c.but_length}", "Content-Encoding", "send all of it{c.and_length}",
-        "../ask.md"),
+        "the {c.cut_coding} body is cut{c.but_length}", "{c.cutting_header}", "{c.whole_coding}", "../ask.md"),
     Way("body/two-lengths", "22 s", lambda c: c.is_short and len(c.lengths) > 1,
         "the answer has {c.lengths_told}: both browsers make that a network error "
         "(docs/BROWSERS.md#bytes-on-the-wire)", "Content-Length", "let one of them alone stand there, the right one",
@@ -443,7 +442,7 @@ SEEN = [
     Way("seen/opaqueredirect", "s", lambda c: c.result.type == "opaqueredirect",
         "the answer redirects ({c.status}), and the redirect mode is manual: the script does not see where to", "Location",
         "{change}: the URL of the response is the last one", "responses.md#types", changes.follow),
-    Way("seen/body-cut", "s", lambda c: c.result.ending == "cut",
+    Way("seen/body-cut", "s", lambda c: c.result.ending == "cut" or c.is_spoilt,
         "the body ends before the end that its head announced, or does not fit it", "Content-Length",
         "send all of it, and its right length", "answers.md#the-body", changes.right_length),
     Way("seen/body-hang", "s", lambda c: c.result.ending == "fault" and c.is_silent,

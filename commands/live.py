@@ -23,22 +23,14 @@ TOLD_BY = re.compile(rb"plain HTTP|HTTPS|requires TLS")
 class Exchange:
     """One request and the bytes of its answer. `link` says how the connection went: done, unknown-name, refused,
     unreached, certificate, no-tls, tls-port, hang, reset; `note` has what the system says of it. `stream` is what the
-    engine reads."""
+    engine reads, `unread` what is wrong in a body that it does not, or None."""
 
     def __init__(self, origin, method, receive):
         self.origin = origin
         self.kept = answers.Pieces()
         self.stream = codings.Stream(receive, method)
         self.failure, self.said = None, ""
-        self.is_ended = False
-
-    @property
-    def is_short(self):
-        """Whether less of the body came than its Content-Length says."""
-        head = answers.Answer(self.answer).head
-        length = codings.length_of(head.get("Content-Length") or "") if head else None
-        is_counted = length is not None and head.get("Transfer-Encoding") is None and head.status not in codings.NO_BODY
-        return is_counted and len(self.answer) - head.end < min(length, MOST_UNREAD)
+        self.is_ended, self.unread = False, None
 
     @property
     def answer(self):
@@ -133,19 +125,45 @@ class Wire:
         return self.exchanges[-1].stream.read()
 
     def look_on(self):
-        """Takes what comes soon of a body that the engine does not read, for what is to be said of it."""
+        """Looks into a body that the engine does not read, as far as it comes soon, for what is to be said of it."""
         exchange = self.exchanges[-1] if self.exchanges else None
-        until = time.monotonic() + min(SOON, max(self.deadline - time.monotonic(), 0))
+        head = answers.Answer(exchange.answer).head if exchange else None
+        if head is None or self.socket is None or exchange.failure or exchange.stream.is_opened:
+            return
+        fault = codings.fault_in(head, self.soon(exchange, head.end), exchange.stream.codings)
+        # Broken chunks are read by some browsers: of a framing its early end alone is a fault.
+        exchange.unread = fault if fault and (fault.coding or exchange.is_ended) else None
+
+    def look_behind(self):
+        """Takes what comes soon behind the length of a body whose coding is cut there."""
+        exchange = self.exchanges[-1] if self.exchanges else None
+        cut = (exchange.stream.cut or exchange.unread) if exchange else None
+        if cut is None or cut.coding is None or cut.is_other or self.socket is None or exchange.failure:
+            return
         try:
-            while self.socket and not exchange.failure and exchange.is_short and not exchange.is_ended:
+            for _ in self.soon(exchange, len(exchange.answer)):
+                pass
+        except codings.Unknown:
+            pass
+
+    def soon(self, exchange, start):
+        """What came of a body, which begins at `start`, and what comes soon."""
+        until = time.monotonic() + min(SOON, max(self.deadline - time.monotonic(), 0))
+        piece, count = exchange.answer[start:], 0
+        while True:
+            count += len(piece)
+            yield piece
+            if count >= MOST_UNREAD or time.monotonic() >= until:
+                raise codings.Unknown
+            try:
                 self.socket.settimeout(max(until - time.monotonic(), 0.001))
                 piece = self.socket.recv(PIECE)
-                exchange.is_ended = not piece
-                exchange.kept.add(piece)
-                if time.monotonic() >= until:
-                    return
-        except OSError:
-            pass  # it comes later, or breaks: nothing is said of that
+            except OSError:  # it comes later, or breaks: nothing is said of that
+                raise codings.Unknown from None
+            exchange.is_ended = not piece
+            exchange.kept.add(piece)
+            if not piece:
+                return
 
     def left(self):
         """How many seconds are left."""
@@ -226,6 +244,7 @@ class Page:
         self.act(fetch)
         if kind is not None and isinstance(fetch.outcome, fiorrudda.Loaded):
             self.wire.look_on()
+        self.wire.look_behind()
         self.wire.close()
         self.lines += printed.outcome_lines(self.as_it_came(fetch.outcome, request), kind is not None)
 

@@ -180,6 +180,8 @@ def verdict(cases, was_navigation=False):
     if case.verdict == "none":
         return UNDECIDED, NO_VERDICT + condition_of(case)
     does = ("load it" if case.command.is_load else "read it") + (OF_NAVIGATION if was_navigation else "")
+    if case.is_spoilt:
+        return NOT_READ, f"the page would not {does}: {condition_of(case)}"
     if results.is_met("read", result) and result.ending != "cut":
         return READ, f"the page would {does}: {seen(case)}"
     return NOT_READ, f"the page would not {does}: {told_of(case)}"

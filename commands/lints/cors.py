@@ -136,7 +136,7 @@ ALLOW_ORIGIN = [
              "send an origin that you trust; or leave Access-Control-Allow-Credentials out"),
     OfAnswer("cors/vary-missing", ORIGIN, vary_missing,
              "this answer is for one origin, and where others ask too a cache gives it to them",
-             "send `Vary: Origin` with it"),
+             "send `Vary: Origin` with every answer of this URL, also a refusal"),
 ]
 
 
