@@ -10,6 +10,7 @@ OF_HEADERS = re.compile("(?:-H|--header=)(.+)", re.DOTALL)
 WITH_A_VALUE = ("-d", "--data", "--data-raw", "--data-binary", "--data-ascii", "--data-urlencode", "-b", "--cookie", "-A",
                 "--user-agent", "-u", "--user")
 CMD = "copied for cmd: copy as cURL (bash)"
+BLANK = "a word is a blank: take the blank behind the \\ at a line's end away"
 WHOLE = "write it whole, as https://api.example/x"
 # What stands before a secret, and is none.
 KINDS_OF_SECRETS = ("basic", "bearer", "digest", "dpop", "negotiate", "token")
@@ -46,7 +47,7 @@ def of_urls(words, urls, is_curl):
     is_pasted = is_curl or any(word.startswith("-H") for word in words)
     for url in urls:
         if is_pasted and not url.strip():
-            return "a word is empty, or a blank: take the blank behind the \\ at a line's end away"
+            return BLANK if url else "the word of a URL is empty"
         before, header = behind(words, url)
         is_whole = SCHEME.match(url) is not None
         if len(urls) > 1 and is_whole and header is not None and header.endswith(":"):
@@ -58,11 +59,12 @@ def of_urls(words, urls, is_curl):
 
 
 def of_no_url(url, before, header, is_among_others):
-    if header is not None and (header.endswith(":") or not PATH.match(url)):
+    if header is not None:
         name = header.partition(":")[0].strip()
         if url.lower() in KINDS_OF_SECRETS:
             return "`%s` is no URL; are the quotes of the header `%s:` missing?" % (url, name)
-        return "what stands behind the header `%s:` is no URL; are the quotes of the header missing?" % name
+        or_whole = " If it is meant as a URL, " + WHOLE if PATH.match(url) and not header.endswith(":") else ""
+        return "what stands behind the header `%s:` is no URL; are the quotes of the header missing?%s" % (name, or_whole)
     if before in WITH_A_VALUE:
         return "what stands behind the value of %s is no URL; are the quotes of that value missing?" % before
     return "`%s` is no URL: %s" % (url, WHOLE) + ("; of several each is whole" if is_among_others else "")
