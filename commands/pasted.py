@@ -136,8 +136,8 @@ class Said:
                 self.note("`%s` is sent without a value" % name)
         hints = [name for name, _ in self.headers if name.lower() in HINTS]
         if hints and self.is_copied and self.is_foreign():
-            self.note("the browser may have added %s by itself (client hints), which asks for no preflight: leave out what "
-                      "no script has set; what one has set has to stand in Access-Control-Allow-Headers"
+            self.note("the browser may have added %s by itself (client hints), which asks for no preflight: leave out "
+                      "what no script has set; what one has set has to stand in Access-Control-Allow-Headers"
                       % ", ".join("`%s`" % name for name in hints))
 
     def reason_against(self, word, value):

@@ -1,5 +1,5 @@
-"""Words of bin/ask that came apart between a browser and the shell: headers whose quotes are missing, are no quotes of a
-shell, or stand twice. They are refused before anything is asked, and what may be a secret is not said again."""
+"""Words of bin/ask that came apart between a browser and the shell: headers whose quotes are missing, are no quotes of
+a shell, or stand twice. They are refused before anything is asked, and what may be a secret is not said again."""
 import re
 
 CURLY = re.compile("[\u2018\u2019\u201a\u201c\u201d\u201e]")
@@ -7,8 +7,8 @@ SCHEME = re.compile(r"\s*[A-Za-z][A-Za-z0-9+.\-]*:(?!\d)")  # and no host with i
 PATH = re.compile(r"/|(?:[\w\-]+\.)*[\w\-]+(?::\d+)?/")  # of a URL whose beginning is missing
 NAME = re.compile(r"[A-Za-z\-]{1,40}(?=[\s=]|$)")
 OF_HEADERS = re.compile("(?:-H|--header=)(.+)", re.DOTALL)
-WITH_A_VALUE = ("-d", "--data", "--data-raw", "--data-binary", "--data-ascii", "--data-urlencode", "-b", "--cookie", "-A",
-                "--user-agent", "-u", "--user")
+WITH_A_VALUE = ("-d", "--data", "--data-raw", "--data-binary", "--data-ascii", "--data-urlencode", "-b", "--cookie",
+                "-A", "--user-agent", "-u", "--user")
 CMD = "copied for cmd: copy as cURL (bash)"
 BLANK = "a word is a blank: take the blank behind the \\ at a line's end away"
 WHOLE = "write it whole, as https://api.example/x"
@@ -51,8 +51,8 @@ def of_urls(words, urls, is_curl):
         before, header = behind(words, url)
         is_whole = SCHEME.match(url) is not None
         if len(urls) > 1 and is_whole and header is not None and header.endswith(":"):
-            return ("a URL stands behind the header `%s`: are the quotes of the header missing? A URL that is to be asked "
-                    "stands before it" % header)
+            return ("a URL stands behind the header `%s`: are the quotes of the header missing? A URL that is to be "
+                    "asked stands before it" % header)
         if not is_whole and (len(urls) > 1 or is_pasted and not url.startswith("/")):
             return of_no_url(url, before, header, len(urls) > 1)
     return None
@@ -64,7 +64,8 @@ def of_no_url(url, before, header, is_among_others):
         if url.lower() in KINDS_OF_SECRETS:
             return "`%s` is no URL; are the quotes of the header `%s:` missing?" % (url, name)
         or_whole = " If it is meant as a URL, " + WHOLE if PATH.match(url) and not header.endswith(":") else ""
-        return "what stands behind the header `%s:` is no URL; are the quotes of the header missing?%s" % (name, or_whole)
+        return "what stands behind the header `%s:` is no URL; are the quotes of the header missing?%s" % (
+            name, or_whole)
     if before in WITH_A_VALUE:
         return "what stands behind the value of %s is no URL; are the quotes of that value missing?" % before
     return "`%s` is no URL: %s" % (url, WHOLE) + ("; of several each is whole" if is_among_others else "")
