@@ -3,7 +3,7 @@ import argparse
 import re
 from urllib.parse import quote
 
-from commands import streams
+from commands import stray_words, streams
 
 KINDS = ["image", "audio", "video", "style", "script", "font", "manifest"]
 POLICIES = ["no-referrer", "no-referrer-when-downgrade", "origin", "origin-when-cross-origin", "same-origin",
@@ -26,11 +26,12 @@ class Wrong(Exception):
 
 
 def header(word):
+    fault = stray_words.of_header(word)
+    if fault:
+        raise argparse.ArgumentTypeError(fault)
     name, colon, value = word.partition(":")
-    if not colon and word.endswith(";"):  # as curl writes an empty value
+    if not colon:  # as curl writes an empty value
         return word[:-1].strip(), ""
-    if not colon:
-        raise argparse.ArgumentTypeError("write it as 'Name: value'")
     return name.strip(), value.strip()
 
 
@@ -146,6 +147,9 @@ def read(self, words):
     given = parser.parse_intermixed_args(words)
     given.is_curl = given.urls[:1] == ["curl"]
     given.urls = given.urls[given.is_curl:] + given.url
+    fault = stray_words.of_urls(words, given.urls, given.is_curl)
+    if fault:
+        parser.error(fault)
     given.connect_to = dict(given.connect_to)
     if not given.urls and given.from_file is None:
         parser.error("name a URL")

@@ -28,6 +28,8 @@ ADDED = {
 }
 # The same where the request was copied from a browser: of others a script may have set them.
 COPIED = {"pragma": CACHE, "cache-control": CACHE, "if-none-match": CACHE, "if-modified-since": CACHE}
+# Client hints without `sec-` in their names.
+HINTS = ("device-memory", "downlink", "dpr", "ect", "rtt", "save-data", "viewport-width")
 ABOUT_PAGE = ("origin", "referer")
 
 
@@ -56,6 +58,7 @@ class Said:
         if given.insecure:
             self.note("-k changes nothing: a page cannot ask a server whose certificate is not trusted")
         self.note_left_out()
+        self.note_kept()
 
     def refuse_preflight(self):
         """A preflight is the browser's own request: no script sends it, and it says nothing of what the page reads."""
@@ -123,6 +126,20 @@ class Said:
             mine = [pair for pair in self.left_out if pair[1] in (ELEMENT, NO_CORS)]
             self.note("left out: " + guards.told(mine + [pair for pair in self.left_out if pair not in mine]))
 
+    def note_kept(self):
+        """What is odd in the headers that are sent."""
+        for name, value in self.headers:
+            if "'" in name:
+                self.note("the header `%s` has a quote in its name, which is sent: take it away where it is one of the "
+                          "shell" % name)
+            if not value:
+                self.note("`%s` is sent without a value" % name)
+        hints = [name for name, _ in self.headers if name.lower() in HINTS]
+        if hints and self.is_copied and self.is_foreign():
+            self.note("the browser may have added %s by itself (client hints), which asks for no preflight: leave out "
+                      "what no script has set; what one has set has to stand in Access-Control-Allow-Headers"
+                      % ", ".join("`%s`" % name for name in hints))
+
     def reason_against(self, word, value):
         if word in ADDED:
             return ADDED[word]
@@ -138,6 +155,10 @@ class Said:
             return NO_CORS
         return None
 
+    def is_foreign(self):
+        """Whether a page is named, and the URL is of another origin."""
+        return self.page is not None and origin_of(self.page) != origin_of(joined(self.url, self.page))
+
     # ---- cookies
 
     def take_cookies(self):
@@ -149,8 +170,7 @@ class Said:
         self.cookies = [*given.cookie, *given.pasted, *copied]
         self.credentials = given.credentials
         went_along = copied or given.pasted or given.is_curl and given.cookie
-        is_foreign = self.page is not None and origin_of(self.page) != origin_of(joined(self.url, self.page))
-        if went_along and is_foreign and not self.load and self.credentials is None:
+        if went_along and self.is_foreign() and not self.load and self.credentials is None:
             self.credentials = "include"
             self.note("the cookies went along to another origin, so it is asked with --credentials include")
 

@@ -1,0 +1,94 @@
+"""Words of bin/ask that came apart between a browser and the shell: headers whose quotes are missing, are no quotes of
+a shell, or stand twice. They are refused before anything is asked, and what may be a secret is not said again."""
+import re
+
+CURLY = re.compile("[\u2018\u2019\u201a\u201c\u201d\u201e]")
+SCHEME = re.compile(r"\s*[A-Za-z][A-Za-z0-9+.\-]*:(?!\d)")  # and no host with its port
+PATH = re.compile(r"/|(?:[\w\-]+\.)*[\w\-]+(?::\d+)?/")  # of a URL whose beginning is missing
+NAME = re.compile(r"[A-Za-z\-]{1,40}(?=[\s=]|$)")
+OF_HEADERS = re.compile("(?:-H|--header=)(.+)", re.DOTALL)
+WITH_A_VALUE = ("-d", "--data", "--data-raw", "--data-binary", "--data-ascii", "--data-urlencode", "-b", "--cookie",
+                "-A", "--user-agent", "-u", "--user")
+CMD = "copied for cmd: copy as cURL (bash)"
+BLANK = "a word is a blank: take the blank behind the \\ at a line's end away"
+WHOLE = "write it whole, as https://api.example/x"
+# What stands before a secret, and is none.
+KINDS_OF_SECRETS = ("basic", "bearer", "digest", "dpop", "negotiate", "token")
+
+
+def of_header(word):
+    """What is wrong in the text of a header, or None."""
+    name, colon, value = word.partition(":")
+    if CURLY.match(word):
+        return of_curly(word)
+    if not colon and not word.endswith(";"):
+        first = NAME.match(word.strip())
+        if first is None:
+            return "a header has no colon: write it as 'Name: value'"
+        return "the header `%s` has no colon: write it as '%s: value'" % (first.group(), first.group())
+    if '"' in name or name.startswith("'") and value.endswith("'"):
+        return "the header `%s` has a quote in its name: take the inner quotes away" % name.strip()
+    return None
+
+
+def of_curly(word):
+    if CURLY.search(word).group() in "\u2018\u2019\u201a":
+        return "\u2018 and \u2019 are no quotes of a shell: write '"
+    return "\u201c and \u201d are no quotes of a shell: write \""
+
+
+def of_urls(words, urls, is_curl):
+    """What is wrong in the words that stand as URLs, or None. `words` are all words as they came."""
+    if any(url.strip().startswith("^") for url in urls):
+        return CMD
+    curly = next((url for url in urls if CURLY.match(url) or CURLY.search(url[-1:])), None)
+    if curly is not None:
+        return of_curly(curly)
+    is_pasted = is_curl or any(word.startswith("-H") for word in words)
+    for url in urls:
+        if is_pasted and not url.strip():
+            return BLANK if url else "the word of a URL is empty"
+        before, header = behind(words, url)
+        is_whole = SCHEME.match(url) is not None
+        if len(urls) > 1 and is_whole and header is not None and header.endswith(":"):
+            return ("a URL stands behind the header `%s`: are the quotes of the header missing? A URL that is to be "
+                    "asked stands before it" % header)
+        if not is_whole and (len(urls) > 1 or is_pasted and not url.startswith("/")):
+            return of_no_url(url, before, header, len(urls) > 1)
+    return None
+
+
+def of_no_url(url, before, header, is_among_others):
+    if header is not None:
+        name = header.partition(":")[0].strip()
+        if url.lower() in KINDS_OF_SECRETS:
+            return "`%s` is no URL; are the quotes of the header `%s:` missing?" % (url, name)
+        or_whole = " If it is meant as a URL, " + WHOLE if PATH.match(url) and not header.endswith(":") else ""
+        return "what stands behind the header `%s:` is no URL; are the quotes of the header missing?%s" % (
+            name, or_whole)
+    if before in WITH_A_VALUE:
+        return "what stands behind the value of %s is no URL; are the quotes of that value missing?" % before
+    return "`%s` is no URL: %s" % (url, WHOLE) + ("; of several each is whole" if is_among_others else "")
+
+
+def behind(words, url):
+    """The word with a dash that a URL stands behind, with no other URL between, and its text where it is a header; None
+    where there is none."""
+    place = next((at for at, word in enumerate(words) if word == url and words[at - 1:at] != ["--url"]), 0)
+    for at in range(place - 1, -1, -1):
+        word, value = words[at], words[at + 1]
+        joined = OF_HEADERS.fullmatch(word)
+        if joined:
+            return word, joined.group(1)
+        if word in ("-H", "--header"):
+            return word, value
+        if word.startswith("-"):
+            return word, None
+        if SCHEME.match(word) and not word.endswith(":") and not is_value(words, at):
+            return None, None
+    return None, None
+
+
+def is_value(words, at):
+    """Whether a word is the value of the one before it."""
+    return words[at - 1:at] in (["-H"], ["--header"], *([word] for word in WITH_A_VALUE))
