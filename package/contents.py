@@ -46,7 +46,7 @@ FORMATS = [Format("fiorrudda-scenario", "the scenarios that fetchplay plays", ["
 FOLDERS = {
     "commands/lints": (".py",),
     "docs": (".md", ".png"),
-    "examples": (".json", ".md", ".out", ".err", ".table"),
+    "examples": (".json", ".md", ".out", ".err", ".table", "nginx.conf", "Caddyfile", "cors.js"),
     "gallery": (".json", ".md", ".txt"),
     "schema": (".json", ".md"),
 }
