@@ -21,7 +21,7 @@ use Rattle.policy_preflight.proofs.ViewLemmas.{verdict-seen}
 use Rattle.policy_filter.specs.Laws.{follows_or_fetches}
 use Rattle.policy_filter.specs.Views.{permitted_view}
 use Rattle.policy_filter.proofs.LawLemmas.{keeps_known_host}
-use Rattle.policy_mixed.specs.Mixed.{is_upgraded}
+use Rattle.policy_checks.specs.Mixed.{is_upgraded}
 use Rattle.fetch_requests.specs.Heads.{hop_of}
 use Rattle.fetch_acts.specs.declared.act.Act.TheVariants.{ReadHead}
 use Rattle.fetch_acts.specs.declared.act.Input.{Input}

@@ -9,7 +9,7 @@ use crate::asking::{fetch_command, load_command};
 use book_calls::Share;
 use link_traits::Link;
 use play_definitions::{Fetcher, Player};
-use script_commands::{Command, Script, Test};
+use script_scenarios::{Command, Script, Test};
 use script_events::Ending;
 use script_filling::holds;
 use value_bytes::OutOfMemory;

@@ -19,9 +19,9 @@ use Rattle.fetch_acts.specs.declared.act.Input.TheVariants.{Replied}
 use Rattle.fetch_acts.specs.Process.{Process, act, ended, fits}
 use Rattle.fetch_acts.specs.Within.{Anything, Within, asks, price_of}
 use Rattle.fetch_rules.specs.KnownHosts.{host_to_match, host_to_note, sts_of}
-use Rattle.script_commands.specs.Scripts.{Step, Steps}
-use Rattle.script_commands.specs.Scripts as script
-use Rattle.script_commands.specs.Valid.{AreValid, IsValidStep}
+use Rattle.script_scenarios.specs.Scripts.{Step, Steps}
+use Rattle.script_scenarios.specs.Scripts as script
+use Rattle.script_scenarios.specs.ValidScripts.{AreValid, IsValidStep}
 use Rattle.script_scenarios.specs.declared.document.Document.{Document}
 use Rattle.script_events.specs.declared.events.Event.{Event}
 use Rattle.fetch_definitions.specs.Fetch.{fetch}
