@@ -26,7 +26,7 @@ use Rattle.script_scenarios.specs.declared.document.Document.{Document}
 use Rattle.script_events.specs.declared.events.Event.{Event}
 use Rattle.fetch_definitions.specs.Fetch.{fetch}
 use Rattle.fetch_definitions.specs.Then.{Context}
-use Rattle.fetch_views.specs.Apart.{Made, Plan, calls_on, does, stops, with_call}
+use Rattle.fetch_laws.specs.Apart.{Made, Plan, calls_on, does, stops, with_call}
 use Rattle.fetch_laws.specs.Prices.{fetch_price}
 use Rattle.fetch_laws.specs.Own.{IsOwnAct}
 use Rattle.fetch_laws.proofs.OwnLemmas.{fetch-within}

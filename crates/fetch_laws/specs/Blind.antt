@@ -6,7 +6,7 @@ use Rattle.fetch_acts.specs.declared.act.Act.{Act}
 use Rattle.fetch_acts.specs.declared.act.Input.{Input}
 use Rattle.fetch_acts.specs.Process.{Process, act, ended, fits}
 use Rattle.fetch_acts.specs.Readings.{Reading}
-use Rattle.fetch_views.specs.Seen.{seen, sent_by}
+use Rattle.fetch_laws.specs.Seen.{seen, sent_by}
 
 -- after an act it goes on from what is seen of each input that fits as from the input; the hop is that which was sent
 -- last

@@ -10,7 +10,7 @@ use Rattle.fetch_acts.specs.declared.act.Act.TheVariants.{Ask}
 use Rattle.fetch_acts.specs.declared.act.Input.{Input}
 use Rattle.fetch_acts.specs.declared.act.Input.TheVariants.{Replied}
 use Rattle.fetch_acts.specs.Process.{Process, Run, act, ended, fits, run}
-use Rattle.fetch_views.specs.Seen.{seen, sent_by}
+use Rattle.fetch_laws.specs.Seen.{seen, sent_by}
 
 -- What is done, whatever it shows and comes to: it stops, or it does an act for a request and goes on from the input
 -- that comes.

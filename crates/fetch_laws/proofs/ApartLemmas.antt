@@ -11,10 +11,10 @@ use Rattle.fetch_acts.specs.declared.act.Input.TheVariants.{HeadIs, Replied}
 use Rattle.fetch_acts.specs.Process.{Process, act, ended, fits, run}
 use Rattle.fetch_acts.specs.Readings.{Reading, before, read, read_on, runs, showing}
 use Rattle.fetch_acts.proofs.ReadingLemmas.{run-read}
-use Rattle.fetch_views.specs.Apart.{Made, Plan, apart, calls_on, does, if_fits, plan_of, replies_on, stops}
-use Rattle.fetch_views.specs.Apart.{views_from, with_call, with_replies, with_view, woven}
-use Rattle.fetch_views.specs.Blind.{Blind, GoesBlind, IsBlind, ShowsNoHead}
-use Rattle.fetch_views.specs.Seen.{seen, sent_by}
+use Rattle.fetch_laws.specs.Apart.{Made, Plan, apart, calls_on, does, if_fits, plan_of, replies_on, stops}
+use Rattle.fetch_laws.specs.Apart.{views_from, with_call, with_replies, with_view, woven}
+use Rattle.fetch_laws.specs.Blind.{Blind, GoesBlind, IsBlind, ShowsNoHead}
+use Rattle.fetch_laws.specs.Seen.{seen, sent_by}
 
 -- what is seen of an input fits where the input does
 pub fits-seen : (first : Act) (request : Request) (sent : Option Hop) (input : Input)

@@ -2,9 +2,9 @@
 use Rattle.std.proofs.Common.{None}
 use Rattle.fetch_acts.specs.Readings.{showing}
 use Rattle.fetch_definitions.specs.Fetch.{fetch}
-use Rattle.fetch_views.specs.Views.{GoesByViews, RunsAlike, RunsApart, ShowsAlike}
-use Rattle.fetch_views.proofs.ApartLemmas.{read-same, run-apart, run-same, shows-blind}
-use Rattle.fetch_views.proofs.BlindLemmas.{blind-fetch}
+use Rattle.fetch_laws.specs.Views.{GoesByViews, RunsAlike, RunsApart, ShowsAlike}
+use Rattle.fetch_laws.proofs.ApartLemmas.{read-same, run-apart, run-same, shows-blind}
+use Rattle.fetch_laws.proofs.BlindLemmas.{blind-fetch}
 
 pub goes-by_views : GoesByViews
 goes-by_views context request plain = blind-fetch context request None plain

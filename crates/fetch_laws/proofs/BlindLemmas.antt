@@ -57,8 +57,8 @@ use Rattle.fetch_definitions.specs.PreflightFetch.{after_preflight_head, clearin
 use Rattle.fetch_definitions.specs.PreflightFetch.{preflight_answered}
 use Rattle.fetch_definitions.specs.PreflightFetch.{preflight_judged, read_preflight_head}
 use Rattle.fetch_definitions.specs.Then.{Context, Onward, Then, head_of, said_yes, tell_all, then_ask_where, was_sent}
-use Rattle.fetch_views.specs.Blind.{Blind}
-use Rattle.fetch_views.specs.Seen.{seen}
+use Rattle.fetch_laws.specs.Blind.{Blind}
+use Rattle.fetch_laws.specs.Seen.{seen}
 
 -- ---- requests that follow or fetch stay so
 

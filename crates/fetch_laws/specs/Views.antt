@@ -9,8 +9,8 @@ use Rattle.fetch_acts.specs.Process.{Process, run}
 use Rattle.fetch_acts.specs.Readings.{shown}
 use Rattle.fetch_definitions.specs.Fetch.{fetch}
 use Rattle.fetch_definitions.specs.Then.{Context}
-use Rattle.fetch_views.specs.Apart.{apart, plan_of, replies_on, views_on}
-use Rattle.fetch_views.specs.Blind.{Blind, ShowsNoHead}
+use Rattle.fetch_laws.specs.Apart.{apart, plan_of, replies_on, views_on}
+use Rattle.fetch_laws.specs.Blind.{Blind, ShowsNoHead}
 
 -- a fetch goes on from the permitted view of each head as from the head, where the redirect mode is follow or the
 -- destination that of a `fetch`, as of each request that a document makes

@@ -1,5 +1,5 @@
 // The laws of what a fetch rests on.
-ghost use Rattle.fetch_views.specs.Views as views;
+ghost use Rattle.fetch_laws.specs.Views as views;
 
 /// A law: a fetch rests on the replies of the shared book and on what the document may learn of all else,
 /// where the redirect mode is follow or the destination that of a `fetch`, as of each request that a
