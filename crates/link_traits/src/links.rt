@@ -4,7 +4,8 @@ ghost use Rattle.link_traits.specs.Counts.{grown_by};
 ghost use Rattle.link_traits.specs.Links.{IsForetold, Lendings, TookBack, one_out};
 ghost use Rattle.link_traits.specs.declared.routes.Route.{Route};
 
-use crate::{Link, routes::Routes};
+use crate::Link;
+use crate::routes::Routes;
 use std::alloc::Global;
 use value_bytes::OutOfMemory;
 

@@ -6,7 +6,9 @@ ghost use Rattle.link_traits.specs.MemoryLinks.{after_make, after_take_back};
 ghost use Rattle.link_traits.specs.declared.routes.Route.{Route};
 ghost use Rattle.value_bytes.specs.declared.memory.OutOfMemory.{OutOfMemory};
 
-use crate::{MemoryLink, links::Links, routes::Routes};
+use crate::MemoryLink;
+use crate::links::Links;
+use crate::routes::Routes;
 use std::alloc::Global;
 use std::collections::VecDeque;
 use std::marker::Model;

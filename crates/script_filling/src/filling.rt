@@ -8,8 +8,8 @@ ghost use Rattle.script_filling.specs.Filled as spec;
 
 use crate::kept::{MOST_VALUE, kept};
 use crate::results::add_value;
-use script_scenarios::next_piece;
 use script_events::Event;
+use script_scenarios::next_piece;
 use std::alloc::Global;
 use value_bytes::{Bytes, OutOfMemory};
 use value_requests::{Init, LoadInit, Pair, Pairs};

@@ -7,7 +7,9 @@ ghost use Rattle.script_scenarios.specs.Valid.{IsValid};
 use crate::answers::answer_bytes;
 use link_traits::Routes;
 use policy_csp_text::Policies;
-use script_scenarios::{Command, Document, Documents, Hosts, Rule, Rules, Scenario, Script, Server, Servers};
+use script_scenarios::{
+    Command, Document, Documents, Hosts, Rule, Rules, Scenario, Script, Server, Servers,
+};
 use std::alloc::Global;
 use url::Url;
 use value_bytes::{Boxed, Bytes, OutOfMemory};

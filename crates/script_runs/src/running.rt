@@ -10,8 +10,8 @@ ghost use Rattle.script_runs.specs.Runs.{started, waited};
 
 use crate::shown::Shown;
 use fetch_acts::{Act, Input};
-use script_scenarios::Command;
 use script_events::{Ending, Event, Events};
+use script_scenarios::Command;
 use std::alloc::Global;
 use std::marker::Model;
 use value_bytes::{Boxed, OutOfMemory};

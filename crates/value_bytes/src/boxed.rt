@@ -1,9 +1,9 @@
 // A box that contracts see as the value inside.
 ghost use Rattle.std.specs.Prelude.{◌≡◌, IfOk};
 
+use crate::OutOfMemory;
 use std::alloc::Global;
 use std::marker::Model;
-use crate::OutOfMemory;
 
 /// A value in a place of its own. It is seen as the value.
 #[derive(Drop)]

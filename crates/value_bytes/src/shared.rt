@@ -1,10 +1,10 @@
 // A counted reference that contracts see as the value.
 ghost use Rattle.std.specs.Prelude.{◌≡◌, IfOk};
 
+use crate::OutOfMemory;
 use std::alloc::Global;
 use std::marker::Model;
 use std::sync::Arc;
-use crate::OutOfMemory;
 
 /// A value that several hold, also on several threads, and none of them changes. Each of them sees it as the
 /// value. It goes with the last of them.

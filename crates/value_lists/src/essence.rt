@@ -3,10 +3,10 @@ ghost use Rattle.std.specs.Prelude.{◌≡◌, IfOk, option_copied, option_map};
 ghost use Rattle.std.specs.Str.{str_to_ascii_lowercase};
 ghost use Rattle.value_lists.specs.Essence as spec;
 
+use crate::split_values;
 use std::alloc::Global;
 use value_bytes::{Bytes, BytesList, OutOfMemory, in_lower_case};
 use value_headers::HeaderList;
-use crate::split_values;
 use value_text::{essence_is, written_essence};
 
 // The essence of a value, as it is written, where it is a MIME type other than `*/*`.
