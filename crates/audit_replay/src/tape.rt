@@ -12,8 +12,7 @@ use book_calls::{Book, Entry, Op, Reply, Share};
 use std::alloc::Global;
 use std::marker::Model;
 use std::snapshot::Snapshot;
-use value_bytes::OutOfMemory;
-use value_places::Shared;
+use value_bytes::{OutOfMemory, Shared};
 
 /// A share that replies to each call of a document by the document's next entry of a given history. It calls no book.
 #[derive(Drop)]

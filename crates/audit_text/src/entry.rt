@@ -6,9 +6,8 @@ ghost use Rattle.audit_text.specs.Private.Reading as spec;
 use crate::calls::call_in;
 use book_calls::Entry;
 use std::alloc::Global;
-use value_bytes::OutOfMemory;
+use value_bytes::{OutOfMemory, Shared};
 use value_decimal::number_up_to;
-use value_places::Shared;
 use value_text::parts_between;
 
 // The words of an entry's line.

@@ -18,7 +18,7 @@ use Rattle.script_runs.specs.Runs.{document_client, document_run}
 use Rattle.script_scenarios.specs.declared.document.Document.{Document}
 use Rattle.script_scenarios.specs.declared.scenario.Scenario.{Scenario}
 use Rattle.script_scenarios.specs.declared.servers.Server.{Server}
-use Rattle.play_servers.specs.Sim.{SimState}
+use Rattle.play_seats.specs.Sim.{SimState}
 use Rattle.play_definitions.specs.Playing.{RunCameTo}
 use Rattle.play_definitions.specs.Worlds.{outside}
 use Rattle.play_isolation.specs.Calls.{PartAtReply}

@@ -3,7 +3,7 @@ ghost use Rattle.audit_verdict.specs.Laws as laws;
 
 use audit_text::law_one_reading;
 use play_isolation::{law_isolated, law_one_play};
-use play_servers::SimLink;
+use play_seats::SimLink;
 
 /// A law: the verdict is `Play` exactly where the text is that of a play of the scenario, with the history that the
 /// text holds; and in that play what each document sends and sees is what it would alone. The call does nothing.

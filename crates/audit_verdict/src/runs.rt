@@ -9,7 +9,7 @@ use book_calls::{Book, Entry};
 use play_documents::drive;
 use play_fetch::OverLink;
 use play_isolation::law_same_calls;
-use play_servers::SimLink;
+use play_seats::SimLink;
 use script_events::{Ending, Transcript, Transcripts};
 use script_scenarios::Scenario;
 use std::alloc::Global;

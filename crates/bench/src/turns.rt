@@ -14,8 +14,7 @@ use std::alloc::Global;
 use std::sync::Wait;
 use std::thread;
 use std::thread::Threads;
-use value_bytes::{Bytes, BytesList};
-use value_places::Shared;
+use value_bytes::{Bytes, BytesList, Shared};
 
 /// A pass, and how many of its calls were answered.
 #[derive(Drop)]

@@ -1,6 +1,6 @@
 // An entry of the book's history: an operation, its turn, its document and its reply.
 use crate::op::{Op, Reply};
-use value_places::Shared;
+use value_bytes::Shared;
 
 /// An operation that was done on the book, in which turn and for which document, and what it replied.
 /// Who asked for the operation may hold it as well.

@@ -9,8 +9,7 @@ use crate::entry::Entry;
 use crate::op::{Op, Reply};
 use std::alloc::Global;
 use std::marker::Model;
-use value_bytes::OutOfMemory;
-use value_places::Shared;
+use value_bytes::{OutOfMemory, Shared};
 
 /// What was done on the book, seen as the list of its entries.
 #[derive(Drop)]

@@ -6,8 +6,7 @@ ghost use Rattle.book_calls.specs.Ops.{InRange, is_answer, is_question};
 
 use crate::op::{Op, Reply};
 use std::alloc::Global;
-use value_bytes::OutOfMemory;
-use value_places::Shared;
+use value_bytes::{OutOfMemory, Shared};
 
 /// A book that is shared by passes. Each document has one pass, and does its operations through it.
 pub trait Share {

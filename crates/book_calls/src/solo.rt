@@ -10,8 +10,7 @@ use crate::share::Share;
 use std::alloc::Global;
 use std::marker::Model;
 use std::snapshot::Snapshot;
-use value_bytes::OutOfMemory;
-use value_places::Shared;
+use value_bytes::{OutOfMemory, Shared};
 
 /// A share that one pass has for itself, seen as the entries that stood in the history when it was opened.
 #[derive(Drop)]

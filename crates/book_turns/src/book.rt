@@ -16,8 +16,7 @@ use std::alloc::Global;
 use std::hint::spin_loop;
 use std::snapshot::Snapshot;
 use std::sync::{Mutex, MutexGuard, Wait};
-use value_bytes::OutOfMemory;
-use value_places::Shared;
+use value_bytes::{OutOfMemory, Shared};
 
 /// A book that threads share. A call waits for its turn; whose is next, no clause says.
 #[derive(Drop)]

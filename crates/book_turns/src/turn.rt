@@ -14,8 +14,7 @@ use std::alloc::Global;
 use std::snapshot::Snapshot;
 use std::sync::Wait;
 use std::thread;
-use value_bytes::OutOfMemory;
-use value_places::Shared;
+use value_bytes::{OutOfMemory, Shared};
 
 /// The seat of a pass.
 pub type Held = Seat<Option<Desk>, View>;

@@ -4,7 +4,7 @@ use Rattle.value_text.specs.Texts.{Text}
 use Rattle.c_handle.specs.Codes.{yes_or_no}
 use Rattle.c_handle.specs.Things.{code_by, held_headers, TextBy}
 use Rattle.c_handle.specs.declared.thing.Thing.{Thing}
-use Rattle.value_mime.specs.Nosniff as sniffing
+use Rattle.value_lists.specs.Nosniff as sniffing
 use Rattle.c_rules.specs.Types.{essence_in}
 
 -- "determine nosniff" of a header list

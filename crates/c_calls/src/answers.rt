@@ -20,7 +20,7 @@ pub extern "C" fn fiorrudda_nosniff(headers: &mut Handle) -> u32
     let Some(list) = headers.headers() else {
         return WRONG_HANDLE;
     };
-    yes_or_no(value_mime::nosniff(list))
+    yes_or_no(value_lists::nosniff(list))
 }
 
 /// Writes the essence of the MIME type of an answer, in lower case, at the beginning of `room`, with no NUL after it,

@@ -17,7 +17,7 @@ pub use Rattle.link_http1.specs.Requests.{request_bytes}
 pub use Rattle.policy_checks.specs.RequestOrigins.{serialized_request_origin}
 pub use Rattle.policy_csp.specs.Violations.{request_violations, response_violations}
 pub use Rattle.policy_csp_text.specs.declared.policy.Policy.{Policy}
-pub use Rattle.policy_mixed.specs.Mixed.{is_blocked, is_upgraded}
+pub use Rattle.policy_checks.specs.Mixed.{is_blocked, is_upgraded}
 pub use Rattle.policy_preflight.specs.Preflight.{preflight_of}
 pub use Rattle.policy_preflight.specs.Verdict.{verdict}
 pub use Rattle.policy_preflight.specs.declared.answer.Checked.{Checked}

@@ -13,7 +13,7 @@ use fetch_rules::set_tainting;
 use policy_filter::filtered;
 use std::alloc::Global;
 use value_headers::HeaderList;
-use value_mime::{essence_of, mime_blocked, nosniff, nosniff_blocked};
+use value_lists::{essence_of, mime_blocked, nosniff, nosniff_blocked};
 use value_requests::{Destination, Head, Response, Tainting, slice_of};
 
 /// The filtered response of a status and a header list that answer a client's request with this response tainting

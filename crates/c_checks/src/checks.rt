@@ -35,7 +35,7 @@ pub fn is_mixed_upgraded(
 {
     let request = request_at(alloc, settings, asked, redirect)?;
     let client = settings.client();
-    Ok(policy_mixed::upgrade(&request, &client.origin, &client.top))
+    Ok(policy_checks::upgrade(&request, &client.origin, &client.top))
 }
 
 /// Whether a client's request is blocked as mixed content (Mixed Content, section 4.4, "should fetching request be
@@ -50,7 +50,7 @@ pub fn is_mixed_blocked(
 {
     let request = request_at(alloc, settings, asked, redirect)?;
     let client = settings.client();
-    Ok(policy_mixed::blocked(&request, &client.origin, &client.top))
+    Ok(policy_checks::blocked(&request, &client.origin, &client.top))
 }
 
 // The violations by a check of a client's request.

@@ -1,7 +1,7 @@
 -- Rules on the origins of URLs that are given as texts.
 use Rattle.std.specs.Prelude.{Bool, Result, Ok}
 use Rattle.value_text.specs.Texts.{Text}
-use Rattle.policy_mixed.specs.Ports.{is_bad_port}
+use Rattle.policy_checks.specs.Ports.{is_bad_port}
 use Rattle.value_origins.specs.Origins.{have_same_origin, serialized, tuple_origin}
 use Rattle.value_origins.specs.Sites.{same_site}
 use Rattle.value_origins.specs.Trust.{is_trustworthy_url}

@@ -2,7 +2,7 @@
 use Rattle.std.specs.Prelude.{Option, option_map, Result, Ok}
 use Rattle.url.specs.Parts.{serialize}
 use Rattle.value_text.specs.Texts.{Text}
-use Rattle.policy_referrer.specs.Referrer.{determine}
+use Rattle.policy_checks.specs.Referrer.{determine}
 use Rattle.value_requests.specs.ReferrerPolicies.{policy_or}
 use Rattle.value_requests.specs.declared.mode.ReferrerPolicy.{ReferrerPolicy}
 use Rattle.value_requests.specs.declared.mode.ReferrerPolicy.TheVariants.{StrictOriginWhenCrossOrigin}

@@ -28,8 +28,8 @@ fn check_host(alloc: Global, host: &[u8], now: u64) -> Result<(), Refusal>
 
 /// Notes what the value of a Strict-Transport-Security field of a host says, at a time in seconds, and tells whether it
 /// says something (RFC 6797, section 8.1). The field came over https with no error. `NotHost` of a host that is no
-/// domain as a URL has it (section 8.1.1), or a localhost name, which is this project's profile; `TooLate` at 2^48 seconds. A refused note leaves the
-/// book as it was.
+/// domain as a URL has it (section 8.1.1), or a localhost name, which is this project's profile; `TooLate` at 2^48
+/// seconds. A refused note leaves the book as it was.
 pub fn note_field(
     alloc: Global,
     book: &mut Book,

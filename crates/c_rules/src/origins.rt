@@ -4,7 +4,7 @@ ghost use Rattle.c_rules.specs.Origins as spec;
 
 use crate::reading::{read_url, read_web_url};
 use crate::refusal::Refusal;
-use policy_mixed::bad_port;
+use policy_checks::bad_port;
 use std::alloc::Global;
 use value_bytes::Bytes;
 use value_origins::{have_same_origin, is_trustworthy_url, same_site, serialize, tuple_origin};

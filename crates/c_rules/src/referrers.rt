@@ -4,7 +4,7 @@ ghost use Rattle.c_rules.specs.Referrers as spec;
 
 use crate::reading::read_web_url;
 use crate::refusal::Refusal;
-use policy_referrer::determine;
+use policy_checks::determine;
 use std::alloc::Global;
 use value_bytes::Bytes;
 use value_requests::{ReferrerPolicy, policy_or};

@@ -12,5 +12,5 @@ use value_headers::HeaderList;
 pub fn essence_in(alloc: Global, list: &HeaderList) -> Result<Option<Bytes>, Refusal>
     ensures { IsUnlessMemory result (spec.essence_in list.now) }
 {
-    Ok(value_mime::essence_of(alloc, list)?)
+    Ok(value_lists::essence_of(alloc, list)?)
 }

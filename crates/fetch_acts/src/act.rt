@@ -4,7 +4,7 @@ ghost use Rattle.fetch_acts.specs.Process as spec;
 ghost use Rattle.book_calls.specs.Ops.{is_answer, is_question};
 
 use book_calls::{Op, Reply};
-use value_places::{Boxed, Shared};
+use value_bytes::{Boxed, Shared};
 use value_requests::{BodyEnd, Head, Hop, Violation};
 
 /// What a fetch asks for next.

@@ -13,7 +13,7 @@ use policy_integrity::{matches, parse_metadata};
 use std::alloc::Global;
 use value_bytes::OutOfMemory;
 use value_headers::HeaderList;
-use value_mime::{essence_of, mime_blocked, nosniff, nosniff_blocked};
+use value_lists::{essence_of, mime_blocked, nosniff, nosniff_blocked};
 use value_requests::{
     BodyEnd, Destination, Head, NetError, Outcome, Request, Response, Tainting, slice_of,
 };

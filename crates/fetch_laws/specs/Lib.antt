@@ -1,3 +1,7 @@
+pub mod Apart
+pub mod Blind
 pub mod Laws
 pub mod Own
 pub mod Prices
+pub mod Seen
+pub mod Views

@@ -2,5 +2,7 @@
 #![tactic(auto)]
 
 mod laws;
+mod views;
 
 pub use laws::{law_asks, law_own_ops};
+pub use views::{law_shown, law_views};

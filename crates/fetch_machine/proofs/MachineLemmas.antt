@@ -21,7 +21,7 @@ use Rattle.value_requests.specs.declared.policy.Violation.{Violation}
 use Rattle.value_bytes.specs.declared.memory.OutOfMemory.{OutOfMemory}
 use Rattle.policy_csp.specs.Violations.{has_enforced, response_violations, upgrades}
 use Rattle.policy_csp_text.specs.declared.policy.Policy.{Policy}
-use Rattle.policy_mixed.specs.Mixed.{is_upgraded}
+use Rattle.policy_checks.specs.Mixed.{is_upgraded}
 use Rattle.fetch_rules.specs.Questions.{clear_of, covers_of}
 use Rattle.fetch_rules.specs.Upgrading.{insecure_upgraded, secured_where, upgraded}
 use Rattle.value_requests.specs.declared.client.Client.{Client}

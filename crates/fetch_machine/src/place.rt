@@ -8,7 +8,7 @@ use fetch_answers::Ended;
 use policy_csp::Violations;
 use policy_preflight::Checked;
 use std::snapshot::Snapshot;
-use value_places::Boxed;
+use value_bytes::Boxed;
 use value_requests::{Head, NetError, Outcome, Request, Response};
 
 /// The request as it is now, how many outer levels owe a clear, and whether this one does.

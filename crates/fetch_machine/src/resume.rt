@@ -17,8 +17,7 @@ use book_calls::Reply;
 use fetch_acts::Input;
 use policy_csp::Compiled;
 use std::alloc::Global;
-use value_bytes::OutOfMemory;
-use value_places::Boxed;
+use value_bytes::{Boxed, OutOfMemory};
 use value_requests::{BodyEnd, Client, Cookies, Head, NetError, Request};
 
 // Whether the book said yes.

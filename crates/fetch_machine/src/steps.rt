@@ -21,8 +21,7 @@ use fetch_rules::clear_of;
 use policy_csp::Violations;
 use std::alloc::Global;
 use std::snapshot::Snapshot;
-use value_bytes::OutOfMemory;
-use value_places::{Boxed, Shared};
+use value_bytes::{Boxed, OutOfMemory, Shared};
 use value_requests::{BodyEnd, Head, Hop, NetError, Outcome, Response, Violation};
 
 // A copy of a violation, in a place of its own.

@@ -1,8 +1,8 @@
 -- What main fetch refuses before anything is sent (Fetch, section 4.1, "main fetch", step 7: "should be blocked due to
 -- a bad port", and "should fetching request be blocked as mixed content?").
 use Rattle.std.specs.Prelude.{Option, Some, None, if◌then◌else◌}
-use Rattle.policy_mixed.specs.Mixed.{is_blocked}
-use Rattle.policy_mixed.specs.Ports.{is_bad_port}
+use Rattle.policy_checks.specs.Mixed.{is_blocked}
+use Rattle.policy_checks.specs.Ports.{is_bad_port}
 use Rattle.value_requests.specs.declared.client.Client.{Client}
 use Rattle.value_requests.specs.declared.error.NetError.{NetError}
 use Rattle.value_requests.specs.declared.error.NetError.TheVariants.{BadPort, Mixed}

@@ -2,7 +2,7 @@
 -- Policy, section 8.3, is called).
 use Rattle.std.specs.Prelude.{Option, Some, None}
 use Rattle.url.specs.Parts.{Parts}
-use Rattle.policy_referrer.specs.Referrer.{determine}
+use Rattle.policy_checks.specs.Referrer.{determine}
 use Rattle.value_requests.specs.declared.client.Client.{Client}
 use Rattle.value_requests.specs.declared.mode.ReferrerPolicy.{ReferrerPolicy}
 use Rattle.value_requests.specs.declared.request.Referrer.{Referrer}

@@ -6,7 +6,7 @@ use Rattle.url.specs.Parser.{without_default_port}
 use Rattle.url.specs.Parts.{Parts}
 use Rattle.policy_csp.specs.Violations.{upgrades}
 use Rattle.policy_csp_text.specs.declared.policy.Policy.{Policy}
-use Rattle.policy_mixed.specs.Mixed.{is_upgraded}
+use Rattle.policy_checks.specs.Mixed.{is_upgraded}
 use Rattle.value_requests.specs.declared.client.Client.{Client}
 use Rattle.value_requests.specs.declared.request.Request.{Request}
 use Rattle.value_requests.specs.Requests.{current_url}

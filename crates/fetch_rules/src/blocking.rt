@@ -3,7 +3,7 @@ ghost use Rattle.std.specs.Prelude.{◌≡◌};
 ghost use Rattle.fetch_rules.specs.Blocking as spec;
 ghost use Rattle.value_requests.specs.Requests.{IsRequest, current_url, is_http_url};
 
-use policy_mixed::{bad_port, blocked};
+use policy_checks::{bad_port, blocked};
 use value_origins::is_http_url;
 use value_requests::{Client, NetError, Request};
 

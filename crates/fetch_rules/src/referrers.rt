@@ -6,7 +6,7 @@ ghost use Rattle.value_requests.specs.Requests.{IsAtHttp, IsClient, IsRequest, i
 ghost use Rattle.value_requests.specs.Requests.{is_http_url, is_policy};
 
 use crate::policies::set_policy;
-use policy_referrer::determine;
+use policy_checks::determine;
 use std::alloc::Global;
 use url::Url;
 use value_bytes::OutOfMemory;

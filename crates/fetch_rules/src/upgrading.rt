@@ -5,8 +5,8 @@ ghost use Rattle.url.specs.Parser.{Gives, GivesBy};
 ghost use Rattle.fetch_rules.specs.Upgrading as spec;
 ghost use Rattle.value_requests.specs.Requests.{IsRequest, IsAtHttp, is_http_url};
 
+use policy_checks::upgrade;
 use policy_csp::Compiled;
-use policy_mixed::upgrade;
 use url::{ParseResult, Url};
 use value_bytes::OutOfMemory;
 use value_requests::{Client, Request};

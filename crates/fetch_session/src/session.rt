@@ -7,7 +7,7 @@ use crate::reading::{Bodies, Reader};
 use fetch_acts::{Act, Input, fits};
 use fetch_machine::Fetching;
 use std::mem::replace;
-use value_places::Boxed;
+use value_bytes::Boxed;
 use value_requests::Outcome;
 
 /// A fetch that waits: the act that it asked for, the reader of the bytes that come, and how bodies are read.

@@ -3,7 +3,7 @@ use Rattle.std.specs.Prelude.{ℕ, Bool, true, false, List, Result, Ok, Err, ⊤
 use Rattle.value_text.specs.Texts.{Text}
 use Rattle.link_traits.specs.Counts.{one_more}
 use Rattle.link_traits.specs.declared.source.Failed.{Failed}
-use Rattle.link_routes.specs.declared.routes.Route.{Route}
+use Rattle.link_traits.specs.declared.routes.Route.{Route}
 use Rattle.link_tcp.specs.Routes.{address_of}
 
 -- the number of the document that it is for, its routes, whether a connection is open, how often one was tried, and how

@@ -7,8 +7,7 @@ ghost use Rattle.link_tcp.specs.Routes.{address_of};
 ghost use Rattle.link_tcp.specs.TcpLink.{after_ask, after_receive, opened};
 
 use crate::routes::address_of;
-use link_routes::Routes;
-use link_traits::{Failed, Faults, Link, Target};
+use link_traits::{Failed, Faults, Link, Routes, Target};
 use std::io::{Read, Write};
 use std::marker::Model;
 use std::net::{Net, OpenStream, TcpStream, ToSocketAddrs};

@@ -5,7 +5,7 @@ ghost use Rattle.link_tcp.specs.TcpLink.{opened};
 
 use crate::link::TcpLink;
 use crate::routes::shared;
-use link_routes::{Links, Routes};
+use link_traits::{Links, Routes};
 use std::alloc::Global;
 use std::marker::Model;
 use std::net::Net;

@@ -3,7 +3,7 @@ ghost use Rattle.std.specs.Arc.{arc_value};
 ghost use Rattle.std.specs.Prelude.{◌≡◌, IfOk, IsTrue, option_copied};
 ghost use Rattle.link_tcp.specs.Routes as spec;
 
-use link_routes::{Route, Routes};
+use link_traits::{Route, Routes};
 use std::alloc::Global;
 use std::sync::Arc;
 use value_bytes::OutOfMemory;

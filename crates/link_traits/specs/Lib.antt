@@ -3,6 +3,7 @@ pub mod Counts
 pub mod Links
 pub mod MemoryAccepts
 pub mod MemoryLink
+pub mod MemoryLinks
 pub mod MemorySink
 pub mod MemorySource
 pub mod Private

@@ -1,6 +1,6 @@
 // A fetch that was played by itself.
 use script_events::Events;
-use value_places::Boxed;
+use value_bytes::Boxed;
 use value_requests::Outcome;
 
 /// What one fetch has shown, and what it came to.

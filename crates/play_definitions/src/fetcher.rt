@@ -7,8 +7,7 @@ ghost use Rattle.play_definitions.specs.Words.{IsRequest, at_time, fetch, most_a
 use crate::player::Player;
 use book_calls::Share;
 use link_traits::Link;
-use value_bytes::OutOfMemory;
-use value_places::Boxed;
+use value_bytes::{Boxed, OutOfMemory};
 use value_requests::{Outcome, Request};
 
 /// What plays the fetches of a run. Scripts are played with any.

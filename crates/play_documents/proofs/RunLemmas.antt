@@ -4,7 +4,7 @@ use Rattle.script_runs.specs.Traces.{stop}
 use Rattle.value_requests.specs.declared.client.Cookie.{Cookie}
 use Rattle.value_requests.specs.declared.client.Client.{Client}
 use Rattle.play_definitions.specs.Playing.{RunCameTo, RunCut, RunPlayed}
-use Rattle.play_documents.specs.Parts.{ended_by}
+use Rattle.play_documents.specs.Private.Parts.{ended_by}
 use Rattle.play_documents.proofs.Words.{[], ℕ, ◌++◌, ◌∙◌, ◌≡◌, ◌≢◌, Answering, Document, Ending, Err, Event, IsAtEnd}
 use Rattle.play_documents.proofs.Words.{IsIdle}
 use Rattle.play_documents.proofs.Words.{List, Memory, None, Ok, Option, OutOfMemory, Outside, PartCut, PartReached}

@@ -1,6 +1,6 @@
 -- The commands of a script.
-use Rattle.script_commands.specs.declared.command.Command.{Command}
-use Rattle.script_commands.specs.Valid.{AreValid, IsValidStep}
+use Rattle.script_scenarios.specs.declared.command.Command.{Command}
+use Rattle.script_scenarios.specs.ValidScripts.{AreValid, IsValidStep}
 use Rattle.play_documents.proofs.Words.{[], ℕ, ◌+◌, ◌-◌, ◌<◌, ◌∷◌, ◌≡◌, ◌≤◌, Answering, Ending, HasSpent, IsAtEnd}
 use Rattle.play_documents.proofs.Words.{LeadsTo, List, MayGoOn, Next, None, Option, PartReached, Rule, RuleCut}
 use Rattle.play_documents.proofs.Words.{RulePlayed, Some, Standing, Steps, Terms, add-one, ap, arith, command_started}

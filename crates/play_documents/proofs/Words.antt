@@ -18,11 +18,11 @@ pub use Rattle.play_definitions.specs.Seats.{AreSeated, DocumentCameTo, Seat, se
 pub use Rattle.play_definitions.specs.Standings.{HasSpent, Keeps, MayGoOn, Standing, Terms, lent_setting, standing}
 pub use Rattle.play_definitions.specs.Worlds.{IsHungUp, Outside, Settles, World, WorldAnswers, most_calls, outside}
 pub use Rattle.play_definitions.specs.Worlds.{outside_of}
-pub use Rattle.play_documents.specs.Parts.{LeadsTo, PartCut, PartReached, Rule, RuleCameTo, RuleCut, RulePlayed}
+pub use Rattle.play_documents.specs.Private.Parts.{LeadsTo, PartCut, PartReached, Rule, RuleCameTo, RuleCut, RulePlayed}
 pub use Rattle.play_documents.specs.Private.Rows.{CanPlay, RowCameTo, seatings_of, transcripts_of}
-pub use Rattle.script_commands.specs.Commands.{step_of, steps_of}
-pub use Rattle.script_commands.specs.Depth.{step_size, steps_size}
-pub use Rattle.script_commands.specs.Scripts.{Steps}
+pub use Rattle.script_scenarios.specs.Commands.{step_of, steps_of}
+pub use Rattle.script_scenarios.specs.Depth.{step_size, steps_size}
+pub use Rattle.script_scenarios.specs.Scripts.{Steps}
 pub use Rattle.script_events.specs.declared.events.Ending.{Ending}
 pub use Rattle.script_events.specs.declared.events.Ending.TheVariants.{Memory}
 pub use Rattle.script_events.specs.declared.events.Event.{Event}

@@ -1,2 +1,3 @@
--- What private contracts alone cite: seats in rows.
+-- What private contracts alone cite: parts of a run, and seats in rows.
+pub mod Parts
 pub mod Rows

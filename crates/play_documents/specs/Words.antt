@@ -7,9 +7,9 @@ pub use Rattle.fetch_wire.specs.Exchanges.{Answering, IsIdle}
 pub use Rattle.fetch_wire.specs.Wires.{exchange_of, over_link}
 pub use Rattle.link_traits.specs.Sources.{IsAtEnd}
 pub use Rattle.play_definitions.specs.Words.{most_asks}
-pub use Rattle.script_commands.specs.Commands.{step_of}
-pub use Rattle.script_commands.specs.Scripts.{fetch as fetch_step, load as load_step}
-pub use Rattle.script_commands.specs.Valid.{AreValid, IsValidInit, IsValidLoad, IsValidStep}
+pub use Rattle.script_scenarios.specs.Commands.{step_of}
+pub use Rattle.script_scenarios.specs.Scripts.{fetch as fetch_step, load as load_step}
+pub use Rattle.script_scenarios.specs.ValidScripts.{AreValid, IsValidInit, IsValidLoad, IsValidStep}
 pub use Rattle.script_events.specs.declared.events.Ending.{Ending}
 pub use Rattle.script_events.specs.declared.events.Ending.TheVariants.{Finished, Memory}
 pub use Rattle.script_events.specs.declared.events.Event.{Event}

@@ -1,6 +1,6 @@
 // What a script asks for: a fetch, or a load by an element.
 ghost use Rattle.std.specs.Prelude.{[], ◌+◌, ◌<◌, ◌∷◌, ◌≡◌, ◌≤◌, IfOk, None, OnErr, OnOk};
-ghost use Rattle.play_documents.specs.Parts.{RuleCameTo};
+ghost use Rattle.play_documents.specs.Private.Parts.{RuleCameTo};
 ghost use Rattle.play_definitions.specs.Standings.{HasSpent, IsReady, Keeps, MayGoOn, standing, world};
 ghost use Rattle.play_documents.specs.Words.{IsAtEnd, IsClient, IsIdle, IsRequest, IsValidInit, IsValidLoad};
 ghost use Rattle.play_documents.specs.Words.{after_events, asked as asks_for, command_started, fetch_step, fetched};

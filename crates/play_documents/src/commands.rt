@@ -1,6 +1,6 @@
 // Scripts, command by command.
 ghost use Rattle.std.specs.Prelude.{◌≡◌, None};
-ghost use Rattle.play_documents.specs.Parts.{RuleCameTo};
+ghost use Rattle.play_documents.specs.Private.Parts.{RuleCameTo};
 ghost use Rattle.play_definitions.specs.Standings.{HasSpent, IsReady, Keeps, MayGoOn, standing};
 ghost use Rattle.play_documents.specs.Words.{AreValid, IsValidStep, chosen, command_started, limit_before, over_link};
 ghost use Rattle.play_documents.specs.Words.{repeated, script_run, step_of};
@@ -9,9 +9,9 @@ use crate::asking::{fetch_command, load_command};
 use book_calls::Share;
 use link_traits::Link;
 use play_definitions::{Fetcher, Player};
-use script_commands::{Command, Script, Test};
 use script_events::Ending;
 use script_filling::holds;
+use script_scenarios::{Command, Script, Test};
 use value_bytes::OutOfMemory;
 
 // One of two scripts, by a condition on the last result.
@@ -103,7 +103,7 @@ fn play_command<F: Fetcher, S: Share, L: Link>(
 /// the link. It gives the ending that a limit brings, or none. `OutOfMemory` where memory was refused: then the script
 /// came to some place.
 #[cycle(script)]
-pub fn script<F: Fetcher, S: Share, L: Link>(
+pub(crate) fn script<F: Fetcher, S: Share, L: Link>(
     fetcher: &F,
     player: &mut Player<'_, '_, '_, '_, '_, S, L>,
     script: &Script,

@@ -1,7 +1,7 @@
 // One document, played.
 ghost use Rattle.std.specs.Prelude.{◌<◌, ◌^◌, ◌≡◌, ◌≢◌, ◌≤◌, IfOk, OnErr, Some, length, slice_get};
 ghost use Rattle.play_definitions.specs.Playing.{RunCameTo};
-ghost use Rattle.play_documents.specs.Parts as spec;
+ghost use Rattle.play_documents.specs.Private.Parts as spec;
 ghost use Rattle.play_definitions.specs.Standings.{lent_setting};
 ghost use Rattle.play_documents.specs.Words.{AreValid, Document as OneDocument, IsAtEnd, IsClient, IsIdle, IsValid};
 ghost use Rattle.play_documents.specs.Words.{IsValidDocument, Memory, beginning, document_client, document_run};

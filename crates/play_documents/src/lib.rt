@@ -1,5 +1,5 @@
-// Documents, played: a script by whoever plays fetches, a document over a link and a share of the book, and all of them on
-// threads.
+// Documents, played: a script by whoever plays fetches, a document over a link and a share of the book, and all of them
+// on threads.
 #![tactic(auto)]
 
 mod asking;

@@ -34,7 +34,7 @@ use Rattle.policy_checks.specs.CorsCheck.{passes_cors_check}
 use Rattle.value_requests.specs.Requests.{current_url, is_http_url, most_redirects}
 use Rattle.policy_checks.specs.RequestOrigins.{serialized_request_origin}
 use Rattle.value_requests.specs.Statuses.{is_ok_status}
-use Rattle.policy_mixed.specs.Ports.{is_bad_port}
+use Rattle.policy_checks.specs.Ports.{is_bad_port}
 use Rattle.book_calls.specs.declared.op.Op.{Op}
 use Rattle.policy_csp.specs.Violations.{has_enforced, request_violations, response_violations}
 use Rattle.policy_preflight.specs.declared.answer.Checked.{Checked}
@@ -63,7 +63,7 @@ use Rattle.fetch_rules.specs.Switch.{with_tainting}
 use Rattle.fetch_rules.specs.Upgrading.{secured_where, upgraded}
 use Rattle.fetch_rules.specs.declared.switch.Switch.{Switch}
 use Rattle.fetch_rules.specs.declared.switch.Switch.TheVariants as switch
-use Rattle.policy_mixed.specs.Mixed.{is_blocked}
+use Rattle.policy_checks.specs.Mixed.{is_blocked}
 use Rattle.fetch_answers.specs.declared.answers.Ended.{Ended}
 use Rattle.fetch_answers.specs.declared.answers.Ended.TheVariants.{Over, Reads}
 use Rattle.fetch_answers.specs.declared.answers.Redirection.{Redirection}

@@ -9,8 +9,7 @@ use book_calls::{Op, Share};
 use fetch_acts::{Act, Input};
 use link_traits::Link;
 use play_definitions::{Lent, Player};
-use value_bytes::OutOfMemory;
-use value_places::Shared;
+use value_bytes::{OutOfMemory, Shared};
 
 // Makes one call of the book, and answers its reply.
 fn ask<S: Share>(

@@ -19,8 +19,7 @@ use play_definitions::{FetchRun, Fetcher, Lent, Player};
 use policy_csp::Compiled;
 use script_runs::Running;
 use std::alloc::Global;
-use value_bytes::OutOfMemory;
-use value_places::Boxed;
+use value_bytes::{Boxed, OutOfMemory};
 use value_requests::{Client, Cookies, Outcome, Request};
 
 // Shows what came of an act, and takes the fetch on from its input.

@@ -12,10 +12,10 @@ use Rattle.fetch_acts.specs.declared.act.Input.{Input}
 use Rattle.fetch_acts.specs.declared.act.Input.TheVariants.{Replied}
 use Rattle.fetch_acts.specs.Process.{fits}
 use Rattle.script_events.specs.declared.events.Event.{Event}
-use Rattle.fetch_views.specs.Apart.{Made, calls_on, replies_on, views_from, with_call, woven}
-use Rattle.fetch_views.specs.Blind.{GoesBlind}
-use Rattle.fetch_views.specs.Seen.{seen, sent_by}
-use Rattle.fetch_views.proofs.ApartLemmas.{SayReplies, BlindPlan, fits-seen, seen-woven, seen_on, woven-seen}
+use Rattle.fetch_laws.specs.Apart.{Made, calls_on, replies_on, views_from, with_call, woven}
+use Rattle.fetch_laws.specs.Blind.{GoesBlind}
+use Rattle.fetch_laws.specs.Seen.{seen, sent_by}
+use Rattle.fetch_laws.proofs.ApartLemmas.{SayReplies, BlindPlan, fits-seen, seen-woven, seen_on, woven-seen}
 use Rattle.script_runs.specs.Play.{Play, PlayRun, emit, events_of, over, play_on, run_play, shows, step, unseen}
 use Rattle.play_isolation.specs.Apart.{apart, plan_of}
 use Rattle.play_isolation.specs.Calls.{call_in, calls_in}

@@ -24,9 +24,9 @@ use Rattle.fetch_acts.specs.declared.act.Input.{Input}
 use Rattle.fetch_acts.specs.Process.{Process, act, ended}
 use Rattle.script_scenarios.specs.declared.document.Document.{Document}
 use Rattle.fetch_definitions.specs.Fetch.{fetch}
-use Rattle.fetch_views.specs.Blind.{Blind, GoesBlind}
-use Rattle.fetch_views.specs.Seen.{seen, sent_by}
-use Rattle.fetch_views.proofs.BlindLemmas.{blind-fetch}
+use Rattle.fetch_laws.specs.Blind.{Blind, GoesBlind}
+use Rattle.fetch_laws.specs.Seen.{seen, sent_by}
+use Rattle.fetch_laws.proofs.BlindLemmas.{blind-fetch}
 use Rattle.script_runs.specs.Play.{Play, emit, events_of, over, step}
 use Rattle.script_runs.specs.Runs.{Next, Progress, after_events, at_time, document_run, embed, fault_event}
 use Rattle.script_runs.specs.Runs.{load_event}

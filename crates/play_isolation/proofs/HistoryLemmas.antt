@@ -6,8 +6,8 @@ use Rattle.book_calls.specs.declared.entry.Entry.{Entry}
 use Rattle.book_calls.specs.Book.{after, reply}
 use Rattle.book_calls.specs.Entries.{book_after, entries_of}
 use Rattle.book_calls.specs.Past.{Answer, PastsAnswer, is_of_key, pasts_of}
-use Rattle.fetch_views.specs.Apart.{Made}
-use Rattle.fetch_views.proofs.ApartLemmas.{SayReplies}
+use Rattle.fetch_laws.specs.Apart.{Made}
+use Rattle.fetch_laws.proofs.ApartLemmas.{SayReplies}
 use Rattle.script_runs.specs.Runs.{document_client, document_run}
 use Rattle.play_isolation.specs.Alone.{after_ops, ops_of, pasts, reply_after}
 use Rattle.play_isolation.specs.Calls.{calls_of, document_calls}

@@ -19,14 +19,14 @@ use Rattle.fetch_acts.specs.declared.act.Input.TheVariants.{Replied}
 use Rattle.fetch_acts.specs.Process.{Process, act, ended, fits}
 use Rattle.fetch_acts.specs.Within.{Anything, Within, asks, price_of}
 use Rattle.fetch_rules.specs.KnownHosts.{host_to_match, host_to_note, sts_of}
-use Rattle.script_commands.specs.Scripts.{Step, Steps}
-use Rattle.script_commands.specs.Scripts as script
-use Rattle.script_commands.specs.Valid.{AreValid, IsValidStep}
+use Rattle.script_scenarios.specs.Scripts.{Step, Steps}
+use Rattle.script_scenarios.specs.Scripts as script
+use Rattle.script_scenarios.specs.ValidScripts.{AreValid, IsValidStep}
 use Rattle.script_scenarios.specs.declared.document.Document.{Document}
 use Rattle.script_events.specs.declared.events.Event.{Event}
 use Rattle.fetch_definitions.specs.Fetch.{fetch}
 use Rattle.fetch_definitions.specs.Then.{Context}
-use Rattle.fetch_views.specs.Apart.{Made, Plan, calls_on, does, stops, with_call}
+use Rattle.fetch_laws.specs.Apart.{Made, Plan, calls_on, does, stops, with_call}
 use Rattle.fetch_laws.specs.Prices.{fetch_price}
 use Rattle.fetch_laws.specs.Own.{IsOwnAct}
 use Rattle.fetch_laws.proofs.OwnLemmas.{fetch-within}

@@ -14,7 +14,7 @@ use Rattle.script_events.specs.declared.events.Event.TheVariants as event
 use Rattle.script_events.specs.declared.events.Transcript.{Transcript}
 use Rattle.script_scenarios.specs.declared.document.Document.{Document}
 use Rattle.script_scenarios.specs.declared.scenario.Scenario.{Scenario}
-use Rattle.fetch_views.specs.Apart.{Made, views_on}
+use Rattle.fetch_laws.specs.Apart.{Made, views_on}
 use Rattle.script_runs.specs.Play.{Play, PlayRun, events_of, run_play}
 use Rattle.script_runs.specs.Runs.{document_client, document_run}
 use Rattle.script_runs.specs.Traces.{PlayTrace, shown, stepped, stop}

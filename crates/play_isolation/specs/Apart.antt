@@ -4,7 +4,7 @@ use Rattle.std.specs.Prelude.{List}
 use Rattle.book_calls.specs.declared.op.Reply.{Reply}
 use Rattle.fetch_acts.specs.declared.act.Input.{Input}
 use Rattle.script_runs.specs.Play.{Play, PlayRun, over, emit, step, run_play}
-use Rattle.fetch_views.specs.Apart.{Plan, does, stops, with_replies}
+use Rattle.fetch_laws.specs.Apart.{Plan, does, stops, with_replies}
 
 -- what a run does
 abbrev pub plan_of : Play → Plan

@@ -5,7 +5,7 @@ use Rattle.book_calls.specs.declared.entry.Entry.{Entry}
 use Rattle.book_calls.specs.Entries.{entries_of}
 use Rattle.script_events.specs.declared.events.Event.{Event}
 use Rattle.script_events.specs.declared.events.Event.TheVariants as event
-use Rattle.fetch_views.specs.Apart.{Made}
+use Rattle.fetch_laws.specs.Apart.{Made}
 
 -- the call that an event shows, where it shows one
 abbrev pub call_in : Event → List Made

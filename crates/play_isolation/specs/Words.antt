@@ -9,10 +9,10 @@ pub use Rattle.book_calls.specs.declared.entry.Entry.{Entry}
 pub use Rattle.book_calls.specs.declared.op.Op.{Op}
 pub use Rattle.book_calls.specs.declared.op.Reply.{Reply}
 pub use Rattle.fetch_acts.specs.declared.act.Input.{Input}
-pub use Rattle.fetch_views.specs.Apart.{Made, replies_on, views_on, woven}
+pub use Rattle.fetch_laws.specs.Apart.{Made, replies_on, views_on, woven}
 pub use Rattle.fetch_wire.specs.Exchanges.{Answering}
 pub use Rattle.play_definitions.specs.Plays.{IsPlay, IsPlayOver, IsTranscript, Way, opening_book}
-pub use Rattle.script_commands.specs.Valid.{AreValid}
+pub use Rattle.script_scenarios.specs.ValidScripts.{AreValid}
 pub use Rattle.script_events.specs.declared.events.Transcript.{Transcript}
 pub use Rattle.script_runs.specs.Documents.{EachDocument}
 pub use Rattle.script_runs.specs.Play.{Play, PlayRun, run_play}

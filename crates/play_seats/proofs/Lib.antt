@@ -7,3 +7,4 @@ pub mod PassLemmas
 pub mod SeatedLemmas
 pub mod ServedLemmas
 pub mod ServerLemmas
+pub mod SimLemmas

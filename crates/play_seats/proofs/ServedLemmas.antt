@@ -9,7 +9,7 @@ use Rattle.book_calls.specs.declared.entry.Entry.{Entry}
 use Rattle.book_calls.specs.Entries.{entries_of}
 use Rattle.play_definitions.specs.Playing.{RunCameTo, RunPlayed}
 use Rattle.play_definitions.specs.Plays.{IsTranscript, Way, by_rules, outside_on, way_to_servers}
-use Rattle.play_servers.specs.Sim.{SimState}
+use Rattle.play_seats.specs.Sim.{SimState}
 use Rattle.play_seats.proofs.ClosedLemmas.{ran-of}
 use Rattle.play_seats.proofs.ServerLemmas.{by_bytes, ran-by-rules, ran-state}
 use Rattle.script_events.specs.declared.events.Ending.TheVariants as ending

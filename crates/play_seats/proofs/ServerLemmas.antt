@@ -12,8 +12,8 @@ use Rattle.script_runs.specs.Play.{Play}
 use Rattle.script_runs.specs.Traces.{PlayTrace, stop, shown, stepped}
 use Rattle.script_runs.proofs.PlayLemmas.{play-map}
 use Rattle.script_scenarios.specs.declared.servers.Server.{Server}
-use Rattle.play_servers.specs.Sim.{SimState, answer_to, fault_count, told_asks, told_counts}
-use Rattle.play_servers.proofs.SimLemmas.{answers-by_parts}
+use Rattle.play_seats.specs.Sim.{SimState, answer_to, fault_count, told_asks, told_counts}
+use Rattle.play_seats.proofs.SimLemmas.{answers-by_parts}
 use Rattle.fetch_wire.specs.Exchanges.{Answering, Exchange}
 use Rattle.fetch_wire.specs.Wires.{over_link}
 use Rattle.fetch_wire.proofs.LawLemmas.{exchange-alike}

@@ -3,7 +3,7 @@
 use Rattle.std.specs.Prelude.{◌≡◌, ℕ, List, [], ◌∷◌, slice_get, Option, Some}
 use Rattle.link_traits.specs.Counts.{grown_by}
 use Rattle.link_traits.specs.Links.{IsForetold, LinkTold}
-use Rattle.link_routes.specs.declared.routes.Route.{Route}
+use Rattle.link_traits.specs.declared.routes.Route.{Route}
 use Rattle.play_definitions.specs.Plays.{Way}
 
 -- what is told of a link

@@ -2,7 +2,7 @@
 -- the same order (this project's own).
 use Rattle.std.specs.Prelude.{◌≡◌, ℕ, ◌≤◌, List, ◌++◌, length, map, Option, option_map, Some, None}
 use Rattle.link_traits.specs.Links.{Lendings, LinkTold, faults_told}
-use Rattle.link_routes.specs.declared.routes.Route.{Route}
+use Rattle.link_traits.specs.declared.routes.Route.{Route}
 use Rattle.script_scenarios.specs.declared.scenario.Scenario.{Scenario}
 use Rattle.play_seats.specs.Lendings.{out_more}
 use Rattle.play_seats.specs.Links.{AreOpened, for_documents, grown_by_all}

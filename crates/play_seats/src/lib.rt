@@ -2,11 +2,18 @@
 #![tactic(auto)]
 
 mod book;
+mod laws;
 mod opening;
 mod passes;
+mod request;
 mod seats;
+mod sim_link;
+mod sim_links;
 
 pub use book::opened;
+pub use laws::law_answers_by_parts;
 pub use opening::{OpenPlay, open_play};
 pub use passes::passes_of;
 pub use seats::{seat_all, unseat};
+pub use sim_link::SimLink;
+pub use sim_links::SimLinks;

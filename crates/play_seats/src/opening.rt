@@ -8,7 +8,7 @@ use crate::book::opened;
 use crate::passes::passes_of;
 use crate::seats::{seat_all, unseat};
 use book_turns::{TurnBook, TurnPass};
-use link_routes::Links;
+use link_traits::Links;
 use play_definitions::Seating;
 use script_scenarios::Scenario;
 use std::alloc::Global;

@@ -6,7 +6,7 @@ ghost use Rattle.play_seats.specs.Lendings.{AreTaken, out_more};
 ghost use Rattle.play_seats.specs.Seated.{links_in};
 
 use book_turns::TurnPass;
-use link_routes::{Links, Routes};
+use link_traits::{Links, Routes};
 use play_definitions::Seating;
 use std::alloc::Global;
 use value_bytes::OutOfMemory;

@@ -20,7 +20,7 @@ use Rattle.play_seats.proofs.ServedLemmas.{fresh_link, one-more-came, served-run
 use Rattle.play_seats.proofs.ServerLemmas.{by_bytes, sim_told}
 use Rattle.play_whole.specs.Private.SoFar.{CameSoFar, ways_of}
 use Rattle.play_whole.specs.declared.in_turn.SoFar.{SoFar}
-use Rattle.play_servers.specs.Sim.{SimState}
+use Rattle.play_seats.specs.Sim.{SimState}
 use Rattle.script_events.specs.declared.events.Ending.TheVariants.{Memory}
 use Rattle.script_events.specs.declared.events.Transcript.{Transcript}
 use Rattle.script_runs.specs.Documents.{EachDocument}

@@ -15,10 +15,10 @@ use Rattle.script_runs.specs.Runs.{document_run}
 use Rattle.script_scenarios.specs.declared.document.Document.{Document}
 use Rattle.script_scenarios.specs.declared.scenario.Scenario.{Scenario}
 use Rattle.script_scenarios.specs.declared.servers.Server.{Server}
-use Rattle.play_servers.specs.Sim.{SimState}
+use Rattle.play_seats.specs.Sim.{SimState}
 use Rattle.play_definitions.specs.Playing.{RunPlayed}
 use Rattle.link_traits.specs.Links.{IsForetold}
-use Rattle.link_routes.specs.declared.routes.Route.{Route}
+use Rattle.link_traits.specs.declared.routes.Route.{Route}
 use Rattle.play_seats.specs.Links.{way_of}
 use Rattle.play_seats.proofs.ServerLemmas.{by_bytes, ran-by-rules, ran-state, sim_told}
 use Rattle.play_seats.specs.Makers.{Maker}

@@ -11,13 +11,12 @@ ghost use Rattle.play_whole.specs.Refused.{NoneOrAllPlayed};
 ghost use Rattle.play_definitions.specs.Plays.{IsPlay, IsPlayOver};
 
 use book_turns::{Closed, TurnBook, TurnPass, TurnShare};
-use link_routes::Links;
+use link_traits::Links;
 use play_definitions::{Played, Seating};
 use play_documents::play_all;
 use play_faults::{law_faults_counted, law_faults_shown};
 use play_fetch::OverLink;
-use play_seats::{open_play, unseat};
-use play_servers::SimLinks;
+use play_seats::{SimLinks, open_play, unseat};
 use script_events::has_text;
 use script_scenarios::Scenario;
 use std::alloc::Global;

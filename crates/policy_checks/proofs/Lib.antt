@@ -1,2 +1,3 @@
+mod StripLemmas
 pub mod Computed
 pub mod NameLemmas

@@ -7,9 +7,9 @@ use Rattle.std.proofs.lemmas.Slice.Eq.{bytes_eq-Decides}
 use Rattle.std.specs.Prelude.{IsTrue, bytes_eq}
 use Rattle.value_headers.specs.declared.headers.Header.{Header}
 use Rattle.value_headers.specs.Headers.{contains, values_of}
-use Rattle.value_mime.specs.Blocking.{mime_blocked}
-use Rattle.value_mime.specs.Essence.{essence_of}
-use Rattle.value_mime.specs.Nosniff.{nosniff}
+use Rattle.value_lists.specs.Blocking.{mime_blocked}
+use Rattle.value_lists.specs.Essence.{essence_of}
+use Rattle.value_lists.specs.Nosniff.{nosniff}
 use Rattle.policy_checks.proofs.NameLemmas.{values-kept, values-only_named}
 use Rattle.value_requests.specs.declared.hop.Head.{Head}
 use Rattle.value_requests.specs.declared.hop.Hop.{Hop}

@@ -2,9 +2,9 @@
 -- blocked due to its MIME type" and ".. due to nosniff").
 use Rattle.std.specs.Prelude.{Bool, true, false, ◌&&◌, List}
 use Rattle.value_headers.specs.declared.headers.Header.{Header}
-use Rattle.value_mime.specs.Blocking.{mime_blocked, nosniff_blocked}
-use Rattle.value_mime.specs.Essence.{essence_of}
-use Rattle.value_mime.specs.Nosniff.{nosniff}
+use Rattle.value_lists.specs.Blocking.{mime_blocked, nosniff_blocked}
+use Rattle.value_lists.specs.Essence.{essence_of}
+use Rattle.value_lists.specs.Nosniff.{nosniff}
 use Rattle.value_requests.specs.declared.policy.Destination.{Destination}
 use Rattle.value_requests.specs.declared.policy.Destination.TheVariants as destination
 

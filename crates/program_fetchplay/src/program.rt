@@ -20,11 +20,10 @@ ghost use Rattle.program_fetchplay.specs.Words as spec;
 
 use crate::complaint::tell;
 use crate::words::{Subcommand, subcommand_of};
-use link_routes::Links;
-use link_traits::{Clock, Sink, Source};
+use link_traits::{Clock, Links, Sink, Source};
 use play_definitions::Played;
 use play_isolation::law_isolated;
-use play_servers::SimLink;
+use play_seats::SimLink;
 use play_text::{Failure, write_play, write_summary};
 use play_whole::{play_over, play_scripted};
 use program_shell::{Status, read_as, read_input};

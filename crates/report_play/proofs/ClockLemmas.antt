@@ -9,9 +9,9 @@ use Rattle.fetch_definitions.specs.Fetch.{fetch}
 use Rattle.fetch_wire.specs.Exchanges.{Answering}
 use Rattle.play_definitions.specs.Playing.{RunPlayed}
 use Rattle.play_definitions.specs.Worlds.{Outside}
-use Rattle.script_commands.specs.Scripts.{Step, Steps}
-use Rattle.script_commands.specs.Scripts as script
-use Rattle.script_commands.specs.Valid.{AreValid, IsValidStep}
+use Rattle.script_scenarios.specs.Scripts.{Step, Steps}
+use Rattle.script_scenarios.specs.Scripts as script
+use Rattle.script_scenarios.specs.ValidScripts.{AreValid, IsValidStep}
 use Rattle.script_events.specs.declared.events.Ending.{Ending}
 use Rattle.script_events.specs.declared.events.Ending.TheVariants.{Finished}
 use Rattle.script_events.specs.declared.events.Event.{Event}

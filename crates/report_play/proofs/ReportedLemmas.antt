@@ -14,7 +14,7 @@ use Rattle.book_calls.proofs.EntryLemmas.{book-on, each-document, legal-on}
 use Rattle.play_definitions.specs.Plays.{IsPlay, IsPlayOver, IsTranscript, RunsOver, Way, by_rules, opening_book}
 use Rattle.play_definitions.specs.Plays.{outside_on, way_to_servers}
 use Rattle.link_traits.specs.Links.{IsForetold, LinkTold}
-use Rattle.link_routes.specs.declared.routes.Route.{Route}
+use Rattle.link_traits.specs.declared.routes.Route.{Route}
 use Rattle.fetch_wire.specs.Exchanges.{Answering}
 use Rattle.play_definitions.specs.Playing.{RunPlayed}
 use Rattle.play_definitions.specs.Seats.{DocumentCameTo, Seat}
@@ -44,7 +44,7 @@ use Rattle.script_scenarios.specs.Valid.{IsValidDocument}
 use Rattle.script_scenarios.specs.declared.document.Document.{Document}
 use Rattle.script_scenarios.specs.declared.scenario.Scenario.{Scenario}
 use Rattle.script_scenarios.specs.declared.servers.Server.{Server}
-use Rattle.play_servers.specs.Sim.{SimState}
+use Rattle.play_seats.specs.Sim.{SimState}
 use Rattle.book_turns.specs.Passes.{IsOneHistory, opening_of}
 use Rattle.book_turns.specs.declared.pass.TurnPass.{TurnPass}
 

@@ -6,7 +6,7 @@ use crate::ops::op_of;
 use book_calls::{Book, Entry, History, Reply, Share, SoloBook, SoloPass};
 use rows_shell::{Failed, Shown};
 use std::alloc::Global;
-use value_places::Shared;
+use value_bytes::Shared;
 
 /// Each operation on a book.
 const CALLS: [&[u8]; 10] = [

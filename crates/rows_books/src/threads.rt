@@ -12,7 +12,7 @@ use std::alloc::Global;
 use std::sync::Wait;
 use std::thread;
 use std::thread::Threads;
-use value_places::Shared;
+use value_bytes::Shared;
 
 /// How many calls a thread makes.
 const CALLS: u64 = 500;

@@ -11,7 +11,7 @@ use rows_shell::{Failed, Shown};
 use std::alloc::Global;
 use std::sync::Wait;
 use std::thread::Threads;
-use value_places::Shared;
+use value_bytes::Shared;
 
 // One pass learns, and the other asks.
 fn learn_and_ask<R: Threads + Wait + Sync>(

@@ -5,8 +5,7 @@
 //
 // An answer is written as its pieces with a bar between, of which each comes by a receive of its own.
 use crate::streams::numbers_of;
-use link_routes::MemoryLinks;
-use link_traits::MemoryLink;
+use link_traits::{MemoryLink, MemoryLinks};
 use rows_shell::{Failed, Held, Row, Shown, texts_between};
 use std::alloc::Global;
 use value_bytes::BytesList;

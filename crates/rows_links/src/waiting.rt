@@ -1,8 +1,7 @@
 // Links that wait for each other.
 ghost use Rattle.std.specs.Prelude.{◌≡◌, [], None};
 
-use link_routes::{Links, Routes};
-use link_traits::{Failed, Link, Target};
+use link_traits::{Failed, Link, Links, Routes, Target};
 use std::alloc::Global;
 use std::sync::atomic::{AtomicBool, Ordering};
 use std::thread;

@@ -12,9 +12,9 @@
 //     how.
 //     a word of `access.rt` of `rows_fetches`, a tab and texts: such a server by itself, and documents that ask it.
 //
-// Before them it plays links and a connection over TCP, as `tcp.rt` says, and then documents on threads, over links that
-// wait for each other: by the top call, as `gates.rt` of `rows_runs` says, and by `play_all` itself, as `seats.rt` of
-// `rows_fetches` does. And it plays the same documents one after another, without threads.
+// Before them it plays links and a connection over TCP, as `tcp.rt` says, and then documents on threads, over links
+// that wait for each other: by the top call, as `gates.rt` of `rows_runs` says, and by `play_all` itself, as `seats.rt`
+// of `rows_fetches` does. And it plays the same documents one after another, without threads.
 #![tactic(auto)]
 
 mod tcp;

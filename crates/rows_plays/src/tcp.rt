@@ -1,8 +1,9 @@
 // What goes over TCP, on the loopback: a document's link asks a listener, an address that is none, and without a route;
 // and a connection is accepted from another thread.
-use link_routes::{Links, Route, Routes};
 use link_tcp::{TcpAccepts, TcpLink, TcpLinks};
-use link_traits::{Accepts, Clock, Link, Sink, Source, SystemClock, Target, write_whole};
+use link_traits::{
+    Accepts, Clock, Link, Links, Route, Routes, Sink, Source, SystemClock, Target, write_whole,
+};
 use rows_shell::{Failed, Shown};
 use std::alloc::Global;
 use std::io::{Read, Write};

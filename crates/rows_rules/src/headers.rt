@@ -11,7 +11,7 @@ use policy_safelist::unsafe_names;
 use rows_shell::{Failed, Row, Shown};
 use std::alloc::Global;
 use value_headers::HeaderList;
-use value_mime::{essence_of, nosniff};
+use value_lists::{essence_of, nosniff};
 use value_requests::{ReferrerPolicy, policy_of_header};
 
 // The answer to a row that takes no memory, and whether the row is one.

@@ -9,7 +9,7 @@ ghost use Rattle.std.specs.Prelude.{◌≡◌};
 ghost use Rattle.value_requests.specs.Requests.{is_policy};
 
 use crate::loads::add_short;
-use policy_referrer::determine;
+use policy_checks::determine;
 use rows_shell::{Failed, Held, Row, Shown, origin_written, policy_named, url_written};
 use std::alloc::Global;
 use url::Url;

@@ -2,7 +2,7 @@
 //
 //     bad_port PORT         whether the port is bad; `-` is none
 //     bad_ports             all bad ports
-use policy_mixed::bad_port;
+use policy_checks::bad_port;
 use rows_shell::{Row, Shown};
 use value_text::parse_digits;
 

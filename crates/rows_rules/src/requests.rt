@@ -9,8 +9,7 @@ ghost use Rattle.std.specs.Prelude.{IsTrue};
 ghost use Rattle.value_requests.specs.Requests.{IsAtHttp, IsRequest, is_determined};
 
 use crate::{checks, cors, responses};
-use policy_checks::serialized_origin;
-use policy_mixed::{blocked, upgrade};
+use policy_checks::{blocked, serialized_origin, upgrade};
 use rows_shell::{Failed, Row, Shown, origin_written, request_of, value_of};
 use std::alloc::Global;
 use value_requests::Request;

@@ -26,8 +26,7 @@ use policy_integrity::{matches, parse_metadata};
 use policy_safelist::{is_forbidden_method, is_safelisted};
 use rows_shell::{Failed, Row, Shown};
 use std::alloc::Global;
-use value_lists::split_value;
-use value_mime::{is_javascript, mime_blocked, nosniff_blocked};
+use value_lists::{is_javascript, mime_blocked, nosniff_blocked, split_value};
 use value_origins::is_local_name;
 use value_text::{
     eq_fold, essence_is, is_digits, is_token, is_value, parse_digits, trim_http, trim_tab_or_space,

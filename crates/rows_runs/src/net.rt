@@ -2,7 +2,7 @@
 // begins with `link` and has the link of the next document, as `links.rt` of `rows_links` says. Shown are the status,
 // each link that was taken back, how often all failed, what was complained, and what was written.
 use crate::runs;
-use link_routes::MemoryLinks;
+use link_traits::MemoryLinks;
 use rows_links::{Streams, links_in, show_links, words_of};
 use rows_shell::{Failed, Shown, number};
 use std::alloc::Global;

@@ -2,7 +2,7 @@
 // was written, as its words say, and what was complained.
 use crate::reports::show_requests;
 use crate::runs;
-use link_routes::MemoryLinks;
+use link_traits::MemoryLinks;
 use rows_links::{Streams, check_words, in_pieces, input_in, program_words, show_streams};
 use rows_shell::{Failed, Held, Shown, has_word};
 use std::alloc::Global;

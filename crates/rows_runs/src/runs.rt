@@ -1,6 +1,5 @@
 // Runs of the programs' top calls over streams in memory. Of each the number of its status is shown.
-use link_routes::Links;
-use link_traits::FixedClock;
+use link_traits::{FixedClock, Links};
 use program_cspreport::cspreport;
 use program_fetchplay::fetchplay;
 use program_playaudit::playaudit;

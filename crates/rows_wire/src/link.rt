@@ -1,8 +1,7 @@
 // Links in memory. A row is `link ROOM ASK RECEIVE ANSWERS CALLS`: how many bytes of room there are for
 // asks, which ask and which receive fails, counted from 1, the answers, with `/` between them and `,`
 // between the pieces of one, and the calls: `ask=TEXT`, `receive=COUNT` or `hang_up`.
-use link_routes::{Links, MemoryLinks, Routes};
-use link_traits::{Link, MemoryLink, Target};
+use link_traits::{Link, Links, MemoryLink, MemoryLinks, Routes, Target};
 use rows_shell::{Failed, Held, Row, Shown, named, number, texts_between};
 use std::alloc::Global;
 use value_bytes::{Bytes, BytesList};

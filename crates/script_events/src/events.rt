@@ -3,8 +3,7 @@ ghost use Rattle.std.specs.Prelude.{◌↔◌, IsTrue};
 ghost use Rattle.script_events.specs.Endings as spec;
 
 use book_calls::{Op, Reply};
-use value_bytes::{Bytes, Items};
-use value_places::{Boxed, Shared};
+use value_bytes::{Boxed, Bytes, Items, Shared};
 use value_requests::{Destination, Hop, NetError, Outcome, TypeFault, Violation};
 
 /// One thing that a document's run shows.

@@ -26,8 +26,8 @@ use Rattle.std.specs.Bool.{then_some}
 use Rattle.value_requests.specs.Urls.{unless_long, url_against}
 use Rattle.fetch_requests.specs.Making.{first_bad, given_size, is_navigate, is_no_cors, is_too_long, pair_size}
 use Rattle.fetch_requests.specs.Making.{url_given}
-use Rattle.script_commands.specs.Pieces.{pieces_behind}
-use Rattle.script_commands.specs.Templates.{filled, opens, pieces, placed}
+use Rattle.script_scenarios.specs.Pieces.{pieces_behind}
+use Rattle.script_scenarios.specs.Templates.{filled, opens, pieces, placed}
 use Rattle.value_text.specs.Pieces.{with_front}
 use Rattle.script_events.specs.declared.events.Event.{Event}
 use Rattle.script_filling.proofs.CutLemmas.{cut-length, cut-value, uncut-value}

@@ -3,8 +3,8 @@ use Rattle.std.proofs.Common.{◌≡◌, ℕ, List, ◌++◌, Option, None, ap, 
 use Rattle.std.proofs.lemmas.List.{append-nil}
 use Rattle.std.specs.List.{flat_map}
 use Rattle.value_text.specs.Trims.{http_whitespace, trimmed}
-use Rattle.script_commands.specs.Pieces.{piece_and, pieces_behind}
-use Rattle.script_commands.specs.Templates.{filled, first_piece, later_pieces, pieces, placed}
+use Rattle.script_scenarios.specs.Pieces.{piece_and, pieces_behind}
+use Rattle.script_scenarios.specs.Templates.{filled, first_piece, later_pieces, pieces, placed}
 use Rattle.script_filling.specs.Filling.{cut_value}
 use Rattle.script_filling.specs.Private.Squeezes.{CutAlike}
 

@@ -5,7 +5,7 @@ use Rattle.value_text.specs.Trims.{http_whitespace, trimmed}
 use Rattle.value_requests.specs.declared.init.Init.{Init}
 use Rattle.value_requests.specs.declared.init.LoadInit.{LoadInit}
 use Rattle.value_requests.specs.declared.init.Pair.{Pair}
-use Rattle.script_commands.specs.Templates.{filled}
+use Rattle.script_scenarios.specs.Templates.{filled}
 use Rattle.script_events.specs.declared.events.Event.{Event}
 use Rattle.script_filling.specs.Results.{value_of}
 

@@ -14,8 +14,8 @@ use Rattle.value_requests.specs.declared.response.Outcome.TheVariants as outcome
 use Rattle.value_requests.specs.declared.response.Response.{Response}
 use Rattle.value_requests.specs.Names.{kind_name}
 use Rattle.value_requests.specs.Statuses.{is_ok_status}
-use Rattle.script_commands.specs.declared.command.Test.{Test}
-use Rattle.script_commands.specs.declared.command.Test.TheVariants.{IsOk, IsError, TypeIs, StatusIs, BodyIs}
+use Rattle.script_scenarios.specs.declared.command.Test.{Test}
+use Rattle.script_scenarios.specs.declared.command.Test.TheVariants.{IsOk, IsError, TypeIs, StatusIs, BodyIs}
 use Rattle.script_events.specs.declared.events.Event.{Event}
 use Rattle.script_events.specs.declared.events.Event.TheVariants as event
 

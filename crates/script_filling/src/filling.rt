@@ -1,15 +1,15 @@
 // What a script asks for, with the parts of the last result in the place of placeholders.
 ghost use Rattle.std.specs.Prelude.{◌≡◌, ◌++◌, IfOk, OnOk, map, option_map, take};
 ghost use Rattle.value_text.specs.Trims.{http_whitespace, trimmed};
-ghost use Rattle.script_commands.specs.Templates.{filled, placed};
+ghost use Rattle.script_scenarios.specs.Templates.{filled, placed};
 ghost use Rattle.script_filling.specs.Filling as short;
 ghost use Rattle.script_filling.specs.Results.{lent_result, value_of};
 ghost use Rattle.script_filling.specs.Filled as spec;
 
 use crate::kept::{MOST_VALUE, kept};
 use crate::results::add_value;
-use script_commands::next_piece;
 use script_events::Event;
+use script_scenarios::next_piece;
 use std::alloc::Global;
 use value_bytes::{Bytes, OutOfMemory};
 use value_requests::{Init, LoadInit, Pair, Pairs};

@@ -4,8 +4,8 @@ ghost use Rattle.script_filling.specs.Results as spec;
 ghost use Rattle.script_filling.specs.Results.{lent_result};
 ghost use Rattle.value_text.specs.Mime.{is_text};
 
-use script_commands::Test;
 use script_events::Event;
+use script_scenarios::Test;
 use std::alloc::Global;
 use value_bytes::OutOfMemory;
 use value_requests::{BodyEnd, Outcome, Response, is_ok_status};

@@ -13,7 +13,7 @@ use Rattle.value_requests.specs.declared.mode.Credentials.TheVariants as credent
 use Rattle.value_requests.specs.declared.mode.Mode.TheVariants as mode
 use Rattle.value_requests.specs.declared.mode.RedirectMode.TheVariants as redirect
 use Rattle.value_requests.specs.declared.mode.ReferrerPolicy.TheVariants as policy
-use Rattle.script_commands.specs.Scripts.{fetch, wait, no_steps, step}
+use Rattle.script_scenarios.specs.Scripts.{fetch, wait, no_steps, step}
 use Rattle.script_scenarios.specs.declared.scenario.Scenario.{Scenario}
 use Rattle.script_reading.specs.declared.place.Place.{Place}
 use Rattle.script_scenarios.specs.declared.servers.Server.{Server}

@@ -10,7 +10,7 @@ use Rattle.std.proofs.lemmas.List.FromFn.{get_or-map-range_with_len, map-range_w
 use Rattle.url.proofs.OnLiterals.{url_on_literals}
 use Rattle.url.specs.Parts.{Parts}
 use Rattle.value_requests.specs.Urls.{url_of_text}
-use Rattle.script_commands.specs.Valid.{IsValidInit, IsValidScript}
+use Rattle.script_scenarios.specs.ValidScripts.{IsValidInit, IsValidScript}
 use Rattle.script_reading.specs.Generated.{api_server, put_request, put_script, address_text, address}
 use Rattle.script_reading.specs.Generated.{generated_document}
 use Rattle.script_reading.specs.Generated.{preflight_rule, other_rule, generated}

@@ -16,7 +16,7 @@ use Rattle.value_requests.specs.declared.mode.ReferrerPolicy.TheVariants as poli
 use Rattle.value_requests.specs.ReferrerPolicies.{policy_of_header}
 use Rattle.value_requests.specs.Requests.{is_policy}
 use Rattle.value_requests.specs.Urls.{url_of_text}
-use Rattle.script_commands.specs.Valid.{IsValidScript}
+use Rattle.script_scenarios.specs.ValidScripts.{IsValidScript}
 use Rattle.value_json.specs.Reading.{Read, present, any, has_key, only_keys, optional, found_or, number_of}
 use Rattle.value_json.specs.Reading.{truth_of}
 use Rattle.value_json.specs.Reading.{text_that, some_of, items_of, list_of}

@@ -1,10 +1,10 @@
 -- The words of other crates of which these definitions speak, each brought in once.
 pub use Rattle.std.specs.List.{flat_map, range_with_len}
 pub use Rattle.std.specs.Str.{str_eq_ignore_ascii_case}
-pub use Rattle.link_routes.specs.declared.routes.Route.{Route}
+pub use Rattle.link_traits.specs.declared.routes.Route.{Route}
 pub use Rattle.policy_csp_text.specs.Policies.{policies_of}
 pub use Rattle.policy_csp_text.specs.declared.policy.Policy.{Policy}
-pub use Rattle.script_commands.specs.Scripts.{Steps, fetch, no_steps, repeat, step, wait}
+pub use Rattle.script_scenarios.specs.Scripts.{Steps, fetch, no_steps, repeat, step, wait}
 pub use Rattle.value_requests.specs.HostNames.{is_host_name}
 pub use Rattle.script_scenarios.specs.Texts.{is_cookie_value}
 pub use Rattle.script_scenarios.specs.declared.document.Document.{Document}

@@ -5,14 +5,14 @@ ghost use Rattle.script_reading.specs.Generated as spec;
 ghost use Rattle.script_scenarios.specs.Valid.{IsValid};
 
 use crate::answers::answer_bytes;
-use link_routes::Routes;
+use link_traits::Routes;
 use policy_csp_text::Policies;
-use script_commands::{Command, Script};
-use script_scenarios::{Document, Documents, Hosts, Rule, Rules, Scenario, Server, Servers};
+use script_scenarios::{
+    Command, Document, Documents, Hosts, Rule, Rules, Scenario, Script, Server, Servers,
+};
 use std::alloc::Global;
 use url::Url;
-use value_bytes::{Bytes, OutOfMemory};
-use value_places::Boxed;
+use value_bytes::{Boxed, Bytes, OutOfMemory};
 use value_requests::{
     Cookies, Credentials, Init, Mode, Pair, Pairs, RedirectMode, ReferrerPolicy, url_alone,
 };

@@ -2,7 +2,7 @@
 ghost use Rattle.script_reading.specs.Scenarios as spec;
 
 use crate::texts::OriginText;
-use link_routes::Route;
+use link_traits::Route;
 use std::alloc::Global;
 use value_json::{AnyText, Form, PairOf, Refused, TextThat, Tree};
 

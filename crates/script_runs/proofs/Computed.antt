@@ -18,8 +18,8 @@ use Rattle.value_requests.specs.declared.response.Outcome.TheVariants.{Answer, E
 use Rattle.value_requests.specs.declared.response.ResponseKind.TheVariants.{Basic}
 use Rattle.value_requests.specs.Lines.{appended_where, header}
 use Rattle.fetch_requests.specs.Making.{new_request}
-use Rattle.script_commands.specs.Scripts as script
-use Rattle.script_commands.specs.declared.command.Test.TheVariants.{BodyIs}
+use Rattle.script_scenarios.specs.Scripts as script
+use Rattle.script_scenarios.specs.declared.command.Test.TheVariants.{BodyIs}
 use Rattle.script_scenarios.specs.declared.document.Document.{Document}
 use Rattle.script_events.specs.declared.events.Ending.TheVariants.{Finished, Fetches, Commands}
 use Rattle.script_events.specs.declared.events.Event.{Event}

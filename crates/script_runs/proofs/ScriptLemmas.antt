@@ -12,9 +12,9 @@ use Rattle.value_requests.specs.declared.policy.Destination.TheVariants as desti
 use Rattle.value_requests.specs.declared.request.Request.{Request}
 use Rattle.fetch_requests.specs.Loading.{new_load}
 use Rattle.fetch_requests.specs.Making.{new_request}
-use Rattle.script_commands.specs.Scripts.{Step, Steps}
-use Rattle.script_commands.specs.Scripts as script
-use Rattle.script_commands.specs.declared.command.Test.{Test}
+use Rattle.script_scenarios.specs.Scripts.{Step, Steps}
+use Rattle.script_scenarios.specs.Scripts as script
+use Rattle.script_scenarios.specs.declared.command.Test.{Test}
 use Rattle.script_scenarios.specs.declared.document.Document.{Document}
 use Rattle.script_events.specs.declared.events.Ending.{Ending}
 use Rattle.script_events.specs.declared.events.Ending.TheVariants.{Commands, Finished}

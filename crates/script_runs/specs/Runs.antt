@@ -4,7 +4,7 @@ use Rattle.std.specs.Prelude.{ℕ, zero, suc, ◌+◌, nat_le, nat_lt, List, [],
 use Rattle.std.specs.Prelude.{None, option_map, Result, Ok, Err, if◌then◌else◌}
 use Rattle.value_requests.specs.declared.policy.Destination.TheVariants as destination
 use Rattle.value_requests.specs.declared.response.Outcome.TheVariants as outcome
-use Rattle.script_commands.specs.Scripts as script
+use Rattle.script_scenarios.specs.Scripts as script
 use Rattle.script_events.specs.declared.events.Event.TheVariants as event
 use Rattle.script_runs.specs.Words.{Client, Commands, Context, Cookie, Destination, Document, Ending, Event, Fetches}
 use Rattle.script_runs.specs.Words.{Finished, Outcome, Policy, Process, Request, Step, Steps, Test, Text, TypeFault}

@@ -11,8 +11,8 @@ pub use Rattle.fetch_definitions.specs.Then.{Context, context_of}
 pub use Rattle.fetch_requests.specs.Loading.{new_load}
 pub use Rattle.fetch_requests.specs.Making.{new_request}
 pub use Rattle.policy_csp_text.specs.declared.policy.Policy.{Policy}
-pub use Rattle.script_commands.specs.Scripts.{Step, Steps}
-pub use Rattle.script_commands.specs.declared.command.Test.{Test}
+pub use Rattle.script_scenarios.specs.Scripts.{Step, Steps}
+pub use Rattle.script_scenarios.specs.declared.command.Test.{Test}
 pub use Rattle.script_events.specs.Lengths.{event_length}
 pub use Rattle.script_events.specs.declared.events.Ending.{Ending}
 pub use Rattle.script_events.specs.declared.events.Ending.TheVariants.{Commands, Fetches, Finished, Text}

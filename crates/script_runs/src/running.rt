@@ -1,6 +1,6 @@
 // How far a document's run has come.
 ghost use Rattle.std.specs.Prelude.{◌≡◌, ◌<◌, ◌≤◌, ◌+◌, ◌^◌, ◌++◌, ◌∷◌, [], OnOk, OnErr};
-ghost use Rattle.script_commands.specs.Commands.{step_of};
+ghost use Rattle.script_scenarios.specs.Commands.{step_of};
 ghost use Rattle.script_runs.specs.Play.{events_of};
 ghost use Rattle.script_filling.specs.Results.{lent_result};
 ghost use Rattle.script_runs.specs.Runs as spec;
@@ -10,12 +10,11 @@ ghost use Rattle.script_runs.specs.Runs.{started, waited};
 
 use crate::shown::Shown;
 use fetch_acts::{Act, Input};
-use script_commands::Command;
 use script_events::{Ending, Event, Events};
+use script_scenarios::Command;
 use std::alloc::Global;
 use std::marker::Model;
-use value_bytes::OutOfMemory;
-use value_places::Boxed;
+use value_bytes::{Boxed, OutOfMemory};
 use value_requests::{Destination, Outcome, TypeFault};
 
 /// How many commands of a document start at most.

@@ -1,4 +1,11 @@
+pub mod Commands
+pub mod Depth
+pub mod Pieces
+pub mod Private
+pub mod Scripts
 pub mod Servers
+pub mod Templates
 pub mod Texts
 pub mod Urls
 pub mod Valid
+pub mod ValidScripts

@@ -4,8 +4,8 @@ use Rattle.std.specs.List.{All}
 use Rattle.value_text.specs.Tokens.{is_token}
 use Rattle.value_requests.specs.declared.client.Cookie.{Cookie}
 use Rattle.value_requests.specs.Requests.{is_policy}
-use Rattle.link_routes.specs.declared.routes.Route.{Route}
-use Rattle.script_commands.specs.Valid.{IsValidScript}
+use Rattle.link_traits.specs.declared.routes.Route.{Route}
+use Rattle.script_scenarios.specs.ValidScripts.{IsValidScript}
 use Rattle.script_scenarios.specs.declared.hosts.KnownHost.{KnownHost}
 use Rattle.script_scenarios.specs.declared.servers.Rule.{Rule}
 use Rattle.script_scenarios.specs.declared.servers.Server.{Server}

@@ -1,6 +1,6 @@
 // The documents of a scenario.
+use crate::Script;
 use policy_csp_text::Policies;
-use script_commands::Script;
 use url::Url;
 use value_bytes::Items;
 use value_requests::ReferrerPolicy;

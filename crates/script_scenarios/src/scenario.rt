@@ -2,7 +2,7 @@
 use crate::document::Documents;
 use crate::hosts::Hosts;
 use crate::servers::Servers;
-use link_routes::Routes;
+use link_traits::Routes;
 use value_requests::Cookies;
 
 /// A scenario: the second in which it begins, the hosts that are known then, the cookies that are

@@ -12,8 +12,8 @@ use Rattle.value_requests.specs.declared.mode.Mode.TheVariants as mode
 use Rattle.value_requests.specs.declared.mode.RedirectMode.TheVariants as redirect
 use Rattle.value_requests.specs.declared.mode.ReferrerPolicy.TheVariants as policy
 use Rattle.value_requests.specs.declared.policy.Destination.TheVariants as destination
-use Rattle.script_commands.specs.declared.command.Test.TheVariants.{IsError, TypeIs, StatusIs}
-use Rattle.script_commands.specs.Scripts.{fetch, load, wait, repeat, choose, Steps, no_steps, step}
+use Rattle.script_scenarios.specs.declared.command.Test.TheVariants.{IsError, TypeIs, StatusIs}
+use Rattle.script_scenarios.specs.Scripts.{fetch, load, wait, repeat, choose, Steps, no_steps, step}
 use Rattle.value_json.specs.Reading.{Read}
 use Rattle.script_steps.specs.Scripts.{document_script_of}
 

@@ -1,7 +1,7 @@
 -- What the readers of scripts come to.
 use Rattle.std.proofs.Common.{◌≡◌, ℕ, zero, suc, ◌+◌, List, [], ◌∷◌, ◌++◌, refl, ap, arith}
 use Rattle.serde_json.specs.Data.{Data}
-use Rattle.script_commands.specs.Scripts.{Step, Steps, no_steps, step, and_step, count}
+use Rattle.script_scenarios.specs.Scripts.{Step, Steps, no_steps, step, and_step, count}
 use Rattle.script_steps.specs.Scripts.{in_order, commands_of, command_in, script_of}
 
 -- the steps of a script, as a list

@@ -11,11 +11,11 @@ use Rattle.value_requests.specs.declared.init.Pair.{Pair}
 use Rattle.value_requests.specs.declared.policy.Destination.{Destination}
 use Rattle.value_requests.specs.declared.policy.Destination.TheVariants as destination
 use Rattle.value_requests.specs.declared.init.CrossOrigin.TheVariants as crossorigin
-use Rattle.script_commands.specs.Scripts.{Step, Steps, no_steps}
-use Rattle.script_commands.specs.Templates.{is_template}
-use Rattle.script_commands.specs.Valid.{IsTemplatePair, IsValidInit, IsValidLoad, IsValidTest, IsValidStep, AreValid}
-use Rattle.script_commands.specs.Valid.{step_repeats, repeats, step_choices, choices, IsValidScript}
-use Rattle.script_commands.specs.declared.command.Test.TheVariants.{TypeIs, StatusIs, BodyIs}
+use Rattle.script_scenarios.specs.Scripts.{Step, Steps, no_steps}
+use Rattle.script_scenarios.specs.Templates.{is_template}
+use Rattle.script_scenarios.specs.ValidScripts.{IsTemplatePair, IsValidInit, IsValidLoad, IsValidTest, IsValidStep, AreValid}
+use Rattle.script_scenarios.specs.ValidScripts.{step_repeats, repeats, step_choices, choices, IsValidScript}
+use Rattle.script_scenarios.specs.declared.command.Test.TheVariants.{TypeIs, StatusIs, BodyIs}
 use Rattle.value_json.specs.Reading.{Read, under, present, number_of, truth_of, text_that, any, word_of, some_of}
 use Rattle.value_json.specs.Reading.{has_key, only_keys, optional, list_of, count, each_from}
 use Rattle.value_json.proofs.KeepsLemmas.{Keeps, Anything, keeps-anything, keeps-after, keeps-weaker, keeps-then}

@@ -3,8 +3,8 @@ use Rattle.std.specs.Prelude.{List, [], ◌∷◌, codes, decimal, Option, Some,
 use Rattle.serde_json.specs.Data.{Data, Items, no_items, item}
 use Rattle.serde_json.specs.Find.{as_array}
 use Rattle.value_text.specs.Texts.{Text}
-use Rattle.script_commands.specs.declared.command.Test.{Test}
-use Rattle.script_commands.specs.declared.command.Test.TheVariants.{IsOk, IsError, TypeIs, StatusIs, BodyIs}
+use Rattle.script_scenarios.specs.declared.command.Test.{Test}
+use Rattle.script_scenarios.specs.declared.command.Test.TheVariants.{IsOk, IsError, TypeIs, StatusIs, BodyIs}
 use Rattle.value_json.specs.Reading.{Read, ◌>>=◌, under, present, number_of, text_that, any, word_of}
 use Rattle.script_steps.specs.declared.conditions.Subject.{Subject}
 use Rattle.script_steps.specs.declared.conditions.Subject.TheVariants as subject

@@ -11,7 +11,7 @@ use Rattle.value_requests.specs.declared.mode.Mode.TheVariants as mode
 use Rattle.value_requests.specs.declared.mode.RedirectMode.{RedirectMode}
 use Rattle.value_requests.specs.declared.mode.RedirectMode.TheVariants as redirect
 use Rattle.value_requests.specs.declared.mode.ReferrerPolicy.{ReferrerPolicy}
-use Rattle.script_commands.specs.Templates.{is_template}
+use Rattle.script_scenarios.specs.Templates.{is_template}
 use Rattle.value_json.specs.Reading.{Read, ◌>>=◌, truth_of, text_that, any, word_of, some_of}
 use Rattle.value_json.specs.Reading.{only_keys, required, optional, list_of, pair_of}
 use Rattle.script_steps.specs.Referring.{policy_of}

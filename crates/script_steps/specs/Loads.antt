@@ -7,7 +7,7 @@ use Rattle.value_requests.specs.declared.init.CrossOrigin.TheVariants as crossor
 use Rattle.value_requests.specs.declared.init.LoadInit.{LoadInit}
 use Rattle.value_requests.specs.declared.policy.Destination.{Destination}
 use Rattle.value_requests.specs.declared.policy.Destination.TheVariants as destination
-use Rattle.script_commands.specs.Templates.{is_template}
+use Rattle.script_scenarios.specs.Templates.{is_template}
 use Rattle.value_json.specs.Reading.{Read, ◌>>=◌, truth_of, text_that, any, word_of, only_keys, required}
 use Rattle.value_json.specs.Reading.{optional}
 use Rattle.script_steps.specs.Referring.{policy_of}

@@ -3,7 +3,7 @@ use Rattle.std.specs.Prelude.{ℕ, zero, suc, List, [], ◌∷◌, codes, Option
 use Rattle.std.specs.Prelude.{if◌then◌else◌}
 use Rattle.serde_json.specs.Data.{Data, Items}
 use Rattle.serde_json.specs.Find.{as_array}
-use Rattle.script_commands.specs.Scripts.{Step, fetch, load, wait, repeat, choose, Steps, no_steps, step}
+use Rattle.script_scenarios.specs.Scripts.{Step, fetch, load, wait, repeat, choose, Steps, no_steps, step}
 use Rattle.value_json.specs.Reading.{Read, ◌>>=◌, under, present, number_of, has_key, only_keys, required}
 use Rattle.value_json.specs.Reading.{optional}
 use Rattle.value_json.specs.Reading.{each_from}

@@ -1,18 +1,17 @@
 // The tables of the commands that have no scripts inside them.
 ghost use Rattle.value_json.specs.Trees.{data_of};
 ghost use Rattle.std.specs.Prelude.{[], Err};
-ghost use Rattle.script_commands.specs.Commands.{step_of};
+ghost use Rattle.script_scenarios.specs.Commands.{step_of};
 ghost use Rattle.value_json.specs.Gives.{GivesAs};
 ghost use Rattle.value_json.specs.Reading.{below};
 ghost use Rattle.script_steps.specs.Scripts as spec;
 
 use crate::fetches::FetchTable;
 use crate::loads::LoadTable;
-use script_commands::Command;
+use script_scenarios::Command;
 use std::alloc::Global;
-use value_bytes::Bytes;
+use value_bytes::{Boxed, Bytes};
 use value_json::{Number, Refused, Tree, only_keys, refused_under, required};
-use value_places::Boxed;
 
 const SECONDS: Number = Number {
     least: 0,

@@ -6,7 +6,7 @@ ghost use Rattle.value_json.specs.Gives.{Gives};
 ghost use Rattle.script_steps.specs.Conditions as spec;
 
 use crate::texts::TEXT;
-use script_commands::Test;
+use script_scenarios::Test;
 use std::alloc::Global;
 use value_json::{Form, Number, Refused, Tree, Word, item_at, refused_here};
 

@@ -1,15 +1,15 @@
 // Scripts, with the scripts inside their commands.
 ghost use Rattle.std.specs.Prelude.{decimal};
 ghost use Rattle.value_json.specs.Trees.{data_of, trees_of};
-ghost use Rattle.script_commands.specs.Commands.{step_of};
-ghost use Rattle.script_commands.specs.Scripts.{no_steps};
+ghost use Rattle.script_scenarios.specs.Commands.{step_of};
+ghost use Rattle.script_scenarios.specs.Scripts.{no_steps};
 ghost use Rattle.value_json.specs.Gives.{Gives, GivesAs};
 ghost use Rattle.value_json.specs.Reading.{under, required, optional};
 ghost use Rattle.script_steps.specs.Scripts as spec;
 
 use crate::commands::{fetch_command, load_command, refused_command, refused_key, wait_command};
 use crate::conditions::Condition;
-use script_commands::{Command, Script};
+use script_scenarios::{Command, Script};
 use std::alloc::Global;
 use value_json::{
     Form, Number, Refused, Tree, Trees, at_segment, only_keys, refused_at, refused_here, required,

@@ -1,10 +1,10 @@
 // Texts that are templates, and the words for referrer policies.
 ghost use Rattle.value_json.specs.Trees.{data_of};
-ghost use Rattle.script_commands.specs.Templates.{is_template};
+ghost use Rattle.script_scenarios.specs.Templates.{is_template};
 ghost use Rattle.value_json.specs.Gives.{Gives};
 ghost use Rattle.script_steps.specs.Referring as spec;
 
-use script_commands::is_template;
+use script_scenarios::is_template;
 use std::alloc::Global;
 use value_bytes::OutOfMemory;
 use value_json::{AnyText, Refused, TextTest, TextThat, Tree, Word, optional};

@@ -14,8 +14,8 @@ use Rattle.value_headers.specs.Headers.{joined, values_of}
 use Rattle.value_lists.specs.Split.{split}
 use Rattle.book_hosts.specs.declared.sts.Sts.{Sts}
 use Rattle.book_hosts.specs.Reading.{sts_in}
-use Rattle.value_mime.specs.Essence.{essence_of}
-use Rattle.value_mime.specs.Nosniff.{nosniff}
+use Rattle.value_lists.specs.Essence.{essence_of}
+use Rattle.value_lists.specs.Nosniff.{nosniff}
 use Rattle.value_requests.specs.declared.error.NetError.{NetError}
 use Rattle.value_requests.specs.declared.error.NetError.TheVariants as error
 use Rattle.value_requests.specs.declared.hop.Head.{Head}

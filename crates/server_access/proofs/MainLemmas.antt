@@ -13,7 +13,7 @@ use Rattle.value_requests.specs.declared.request.Request.{Request}
 use Rattle.value_requests.specs.Requests.{current_url, is_http_url}
 use Rattle.policy_csp_text.specs.declared.policy.Policy.{Policy}
 use Rattle.policy_csp.specs.Violations.{request_violations}
-use Rattle.policy_mixed.specs.Mixed.{is_ip_address, is_upgradeable, prohibits_mixed}
+use Rattle.policy_checks.specs.Mixed.{is_ip_address, is_upgradeable, prohibits_mixed}
 use Rattle.value_origins.specs.Trust.{is_trustworthy_url}
 use Rattle.url.specs.Parts.{nonempty_host}
 use Rattle.fetch_rules.specs.Blocking.{refusal_before}

@@ -2,7 +2,7 @@
 use Rattle.std.proofs.Common.{Bool, true, false, Option, Some, None, refl, IfSome, if◌then◌else◌}
 use Rattle.url.specs.Parts.{Parts}
 use Rattle.value_origins.specs.Origins.{have_same_origin}
-use Rattle.policy_referrer.specs.Referrer.{determine, is_downgrade, is_too_long, origin_only, whole}
+use Rattle.policy_checks.specs.Referrer.{determine, is_downgrade, is_too_long, origin_only, whole}
 use Rattle.fetch_rules.specs.Referrers.{determined, referrer_of}
 use Rattle.value_requests.specs.declared.client.Client.{Client}
 use Rattle.value_requests.specs.declared.mode.ReferrerPolicy.{ReferrerPolicy}

@@ -1,2 +1,4 @@
+pub mod EssenceLemmas
 pub mod ExtractLemmas
+pub mod NosniffLemmas
 pub mod SplitLemmas

@@ -1,6 +1,6 @@
 use Rattle.std.proofs.Common.{◌≡◌, ◌<◌, arith, length, refl, rules, sym, ◌∙◌}
 use Rattle.std.proofs.lemmas.List.{get_or_default, take_more_same}
-use Rattle.link_routes.specs.declared.routes.Route.{Route}
+use Rattle.link_traits.specs.declared.routes.Route.{Route}
 use Rattle.link_tcp.proofs.routes.are_same.Goals as goal
 
 same-route : (a b : Route) → a.origin ≡ b.origin → a.address ≡ b.address → a ≡ b

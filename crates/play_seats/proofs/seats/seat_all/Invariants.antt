@@ -1,6 +1,6 @@
 use Rattle.std.proofs.Common.{◌≡◌, ℕ, ◌+◌, ◌≤◌, List, length, map, option_map, vec_capacity, vec_len}
 use Rattle.std.specs.Vec.Iter.{into_iter_len}
-use Rattle.link_routes.specs.declared.routes.Route.{Route}
+use Rattle.link_traits.specs.declared.routes.Route.{Route}
 use Rattle.play_seats.specs.Links.{AreOpened, for_documents}
 use Rattle.play_seats.specs.Lendings.{out_more}
 use Rattle.play_seats.proofs.seats.seat_all.Given as goal

@@ -1,5 +1,5 @@
 use Rattle.std.proofs.Common.{Some, ap, refl}
-use Rattle.play_servers.specs.Sim.{SimState, fault_count, not_lent}
+use Rattle.play_seats.specs.Sim.{SimState, fault_count, not_lent}
 use Rattle.play_seats.specs.Makers.{Maker}
 use Rattle.play_whole.specs.Links.{IsPlayOverLinks}
 use Rattle.play_definitions.specs.Plays.{IsPlay}

@@ -5,7 +5,7 @@ use Rattle.report_play.specs.Plays.{IsReportedPlay}
 use Rattle.report_play.specs.Private.Delivered.{WasReported}
 use Rattle.report_play.specs.declared.play.Reported.{Reported}
 use Rattle.report_play.proofs.ReportedLemmas.{reported-play}
-use Rattle.play_servers.specs.Sim.{SimState}
+use Rattle.play_seats.specs.Sim.{SimState}
 use Rattle.report_play.proofs.play.play_reported.Goals as goal
 
 pub returns : goal.returns

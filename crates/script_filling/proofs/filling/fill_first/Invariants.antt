@@ -1,8 +1,8 @@
 use Rattle.std.proofs.Common.{◌≡◌, ◌++◌, ℕ, List, Bor}
 use Rattle.std.specs.Prelude.{option_map}
 use Rattle.std.specs.List.{flat_map}
-use Rattle.script_commands.specs.Pieces.{pieces_behind}
-use Rattle.script_commands.specs.Templates.{filled, placed}
+use Rattle.script_scenarios.specs.Pieces.{pieces_behind}
+use Rattle.script_scenarios.specs.Templates.{filled, placed}
 use Rattle.script_filling.specs.Results.{lent_result, value_of}
 use Rattle.script_filling.proofs.FillingLemmas.{size_of}
 use Rattle.script_filling.proofs.filling.fill_first.Given as goal

@@ -1,6 +1,6 @@
 use Rattle.std.proofs.Common.{◌++◌, ◌∙◌, ap, ℕ, List, Bor, Option}
 use Rattle.std.specs.Prelude.{option_map}
-use Rattle.script_commands.specs.Templates.{filled}
+use Rattle.script_scenarios.specs.Templates.{filled}
 use Rattle.script_filling.specs.Results.{lent_result, value_of}
 use Rattle.script_filling.proofs.ValueLemmas.{left, shortened, value-begins, value-ends, value-grows}
 use Rattle.script_filling.proofs.filling.fill_value.Goals as goal

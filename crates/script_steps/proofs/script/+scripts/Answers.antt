@@ -1,7 +1,7 @@
 use Rattle.std.proofs.Common.{◌≡◌, ap, ◌∙◌, sym, ℕ, List, Ok}
 use Rattle.std.specs.Prelude.{decimal}
-use Rattle.script_commands.specs.Commands.{step_of}
-use Rattle.script_commands.specs.Scripts.{Step, Steps, count}
+use Rattle.script_scenarios.specs.Commands.{step_of}
+use Rattle.script_scenarios.specs.Scripts.{Step, Steps, count}
 use Rattle.value_json.specs.Trees.{data_of, trees_of}
 use Rattle.value_json.specs.Reading.{Read, ◌>>=◌, under, each_from}
 use Rattle.value_json.proofs.ReadingLemmas.{one-more, none-left}

@@ -1,5 +1,5 @@
 use Rattle.std.proofs.Common.{◌≡◌, ◌+◌, ◌*◌, length}
-use Rattle.script_commands.specs.Scripts.{count}
+use Rattle.script_scenarios.specs.Scripts.{count}
 use Rattle.value_json.specs.Trees.{trees_of}
 use Rattle.value_json.specs.Reading.{each_from}
 use Rattle.value_json.proofs.ReadingLemmas.{with_front}

@@ -1,3 +1,0 @@
-pub mod AlikeLemmas
-pub mod ApartLemmas
-pub mod BlindLemmas

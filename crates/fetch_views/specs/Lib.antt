@@ -1,4 +1,0 @@
-pub mod Apart
-pub mod Blind
-pub mod Seen
-pub mod Views

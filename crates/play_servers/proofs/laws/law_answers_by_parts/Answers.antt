@@ -1,5 +1,0 @@
-use Rattle.play_servers.proofs.SimLemmas.{answers-by_parts}
-use Rattle.play_servers.proofs.laws.law_answers_by_parts.Goals as goal
-
-pub returns : goal.returns
-returns c = answers-by_parts

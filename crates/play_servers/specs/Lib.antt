@@ -1,2 +1,0 @@
-pub mod Sim
-pub mod Laws

@@ -1,2 +1,0 @@
-pub mod EssenceLemmas
-pub mod NosniffLemmas

@@ -1,6 +1,0 @@
-use Rattle.std.proofs.Common.{◌≡◌, drop}
-use Rattle.value_mime.specs.Nosniff as spec
-use Rattle.value_mime.proofs.sniffing.nosniff.Given as goal
-
-abbrev pub invariant-loop-index : goal.invariant-loop-index
-invariant-loop-index l = spec.nosniff l.headers ≡ spec.nosniff (drop l.index l.headers)

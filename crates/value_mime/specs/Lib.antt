@@ -1,4 +1,0 @@
-pub mod Blocking
-pub mod Essence
-pub mod JavaScript
-pub mod Nosniff
