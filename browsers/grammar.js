@@ -276,4 +276,4 @@ function made(area, number) {
   return AREAS[area](new Chance(seed));
 }
 
-module.exports = { made, AREAS };
+module.exports = { made, AREAS, KINDS, TYPES };

@@ -1,6 +1,6 @@
-"""The words of the engine with their numbers, out of the Rattle sources, and what is written of them for other languages:
-schema/names.json, names.py of commands/ and of python/fiorrudda/, view/names.js, embed/names.h, and the lists of words in
-schema/scenario.schema.json."""
+"""The words of the engine with their numbers, out of the Rattle sources, and what is written of them for other
+languages: schema/names.json, names.py of commands/ and of python/fiorrudda/, view/names.js, embed/names.h, and the
+lists of words in schema/scenario.schema.json."""
 from __future__ import annotations
 
 import json
@@ -33,10 +33,11 @@ WORDS = (
     ("crossorigins", "script_steps/src/loads.rt", "CrossOrigin", None, "c_calls/src/choices.rt"),
     ("referrer_policies", "script_steps/src/texts.rt", "ReferrerPolicy", MODE, "c_calls/src/policies.rt"),
 )
-# Where schema/scenario.schema.json lists words, and the table of those.
-IN_SCHEMA = {"load/properties/kind": "loads", "load/properties/crossorigin": "crossorigins", "fetch/properties/mode": "modes",
-             "fetch/properties/credentials": "credentials", "fetch/properties/redirect": "redirects",
-             "referrer_policy": "referrer_policies"}
+SCHEMA = "schema/scenario.schema.json"
+# Where it lists words, and the table of those.
+IN_SCHEMA = {"load/properties/kind": "loads", "load/properties/crossorigin": "crossorigins",
+             "fetch/properties/mode": "modes", "fetch/properties/credentials": "credentials",
+             "fetch/properties/redirect": "redirects", "referrer_policy": "referrer_policies"}
 WIDTH = 118  # characters of a line
 MADE = "Written by embed/header from the Rattle sources: do not edit."
 
@@ -171,7 +172,7 @@ def with_words(schema: str, names: Names) -> str:
         start = schema.index(f'"{path[-1]}": {{', start) if path else start
         listed = re.compile(r'"enum": \[(\s*)[^\]]*?(\s*)\]').search(schema, start)
         if listed is None:
-            raise Fault(f"schema/scenario.schema.json has no list of words at {place}")
+            raise Fault(f"{SCHEMA} has no list of words at {place}")
         shown = ("," + (listed[1] or " ")).join(map(json.dumps, names[table]))
         schema = f'{schema[:listed.start()]}"enum": [{listed[1]}{shown}{listed[2]}]{schema[listed.end():]}'
     return schema
@@ -183,7 +184,7 @@ FILES: dict[str, Callable[[Names], str]] = {
     "python/fiorrudda/names.py": as_module,
     "view/names.js": as_script,
     "embed/names.h": as_c,
-    "schema/scenario.schema.json": lambda names: with_words((TOP / "schema/scenario.schema.json").read_text("utf-8"), names),
+    SCHEMA: lambda names: with_words((TOP / SCHEMA).read_text("utf-8"), names),
 }
 
 

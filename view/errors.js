@@ -1,7 +1,7 @@
 "use strict";
 
-// What a play's refusals mean: of each name, as docs/rules/printed-text.md lists them, one sentence, and the place below
-// docs/ that states the rule.
+// What a play's refusals mean: of each name, as docs/rules/printed-text.md lists them, one sentence, and the place
+// below docs/ that states the rule.
 const ERROR_TEXTS = {
   Scheme: ["The URL is neither http nor https.", "rules/fetch.md#main-fetch"],
   BadPort: ["The port of the URL is one that browsers block.",

@@ -43,8 +43,8 @@ function widePlay(documents) {
 
 // A fetch that an enforced policy refuses by a directive.
 function violatingPlay(directive) {
-  return ["fetchplay 1", "document 0 http://page.test", "fetch 0", "violation 0 enforce " + directive + " http://a.test/",
-    "result error 4 CspRequest", "end finished", "history", "done", ""].join("\n");
+  return ["fetchplay 1", "document 0 http://page.test", "fetch 0",
+    "violation 0 enforce " + directive + " http://a.test/", "result error 4 CspRequest", "end finished", "history", "done", ""].join("\n");
 }
 
 // What would end a script, begin a comment, or be run, if a page took it for more than text.
