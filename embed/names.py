@@ -24,6 +24,8 @@ MODE = "value_requests/src/mode.rt"
 RESPONSE = "value_requests/src/response.rt"
 STATUS = "program_shell/src/status.rt"
 EFFECTIVE = "policy_csp/src/directives.rt"
+LOADING = "fetch_requests/src/load.rt"
+MIXED = "policy_checks/src/mixed.rt"
 # Where a scenario's words stand, each with its type; where the type has its names; and where the C library numbers it.
 WORDS = (
     ("loads", "script_steps/src/loads.rt", "Destination", POLICY, "c_calls/src/choices.rt"),
@@ -50,7 +52,7 @@ def source(file: str) -> str:
     return (TOP / "crates" / file).read_text("utf-8")
 
 
-def found(pattern: str, file: str, least: int = 2) -> list[tuple[str, ...]]:
+def found(pattern: str, file: str, least: int = 2) -> list:
     """What a pattern with groups finds in a file of a crate."""
     rows = re.findall(pattern, source(file), re.M)
     if len(rows) < least:
@@ -97,10 +99,20 @@ def effective() -> dict[str, str]:
     return {name: by[variant] for variant, name in destinations.items()}
 
 
+def loads_in(pattern: str, file: str) -> list[str]:
+    """The loads that a function names."""
+    names, places = named(POLICY, "Destination"), found(pattern, file, 1)
+    if len(places) > 1:
+        raise Fault(f"crates/{file} has {len(places)} places that are as {pattern}")
+    return [names[variant] for variant in re.findall(r"Destination::(\w+)", places[0])]
+
+
 def tables() -> Names:
     statuses = {variant: int(number) for variant, number in found(r"^ +Status::(\w+)(?:\(_\))? => (\d+),$", STATUS)}
     return {
         **{name: words(file, kind, names_in, numbered_in) for name, file, kind, names_in, numbered_in in WORDS},
+        "cors_loads": loads_in(r"matches!\(kind, (Destination::[^)]*)\)", LOADING),
+        "upgradeable_loads": loads_in(r"^ +(Destination::.*) => true,$", MIXED),
         "directives": list(named(POLICY, "Directive").values()),
         "effective_directives": effective(),
         "response_types": list(named(RESPONSE, "ResponseKind").values()),

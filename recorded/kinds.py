@@ -121,7 +121,7 @@ def asked_of(chain: Chain, page_origin: str, html: Optional[Html], element: Opti
 
 
 def of_load(chain: Chain, asked: Asked, mode: str, page_origin: str) -> Asked:
-    is_cors = asked.kind in ("font", "manifest")
+    is_cors = asked.kind in names.CORS_LOADS
     entry = chain.first
     if asked.element and asked.element.crossorigin and mode != "no-cors":
         asked.crossorigin = asked.element.crossorigin

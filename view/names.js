@@ -9,6 +9,8 @@ const engineNames = {
   crossorigins: {"anonymous": 1, "use-credentials": 2},
   referrer_policies: {"": 0, "no-referrer": 1, "no-referrer-when-downgrade": 2, "same-origin": 3, "origin": 4,
     "strict-origin": 5, "origin-when-cross-origin": 6, "strict-origin-when-cross-origin": 7, "unsafe-url": 8},
+  cors_loads: ["font", "manifest"],
+  upgradeable_loads: ["image", "audio", "video"],
   directives: ["connect-src", "img-src", "media-src", "font-src", "manifest-src", "style-src-elem", "script-src-elem"],
   effective_directives: {"fetch": "connect-src", "image": "img-src", "audio": "media-src", "video": "media-src",
     "style": "style-src-elem", "script": "script-src-elem", "font": "font-src", "manifest": "manifest-src"},

@@ -7,6 +7,8 @@ CROSSORIGINS: dict[str, int] = {"anonymous": 1, "use-credentials": 2}
 REFERRER_POLICIES: dict[str, int] = {"": 0, "no-referrer": 1, "no-referrer-when-downgrade": 2, "same-origin": 3,
     "origin": 4, "strict-origin": 5, "origin-when-cross-origin": 6, "strict-origin-when-cross-origin": 7,
     "unsafe-url": 8}
+CORS_LOADS: list[str] = ["font", "manifest"]
+UPGRADEABLE_LOADS: list[str] = ["image", "audio", "video"]
 DIRECTIVES: list[str] = ["connect-src", "img-src", "media-src", "font-src", "manifest-src", "style-src-elem",
     "script-src-elem"]
 EFFECTIVE_DIRECTIVES: dict[str, str] = {"fetch": "connect-src", "image": "img-src", "audio": "media-src",
