@@ -1,7 +1,7 @@
 "use strict";
 
 // Compares the engine's play of a scenario with a browser's, command by command. A difference says `what` differs, with
-// the engine's value and the browser's; null is what was not there. What is not compared is listed in docs/BROWSERS.md.
+// the engine's value and the browser's; null is what was not there. What is not compared is listed in browsers/README.md.
 
 const { errorsOf } = require("./reasons.js");
 const { ruleFor } = require("./scripted.js");

@@ -1,7 +1,7 @@
 "use strict";
 
 // The table of rules against docs/BROWSERS.md: each rule is named there, in its section, with a link to its scenario; the
-// page names no other rule; and a row says of each browser what its rules say.
+// page names no other rule; and a row names the browsers that its rules are of.
 
 const fs = require("fs");
 const path = require("path");
@@ -28,23 +28,23 @@ function namedRules(text) {
 
 const cellsOf = (line) => line.split("|").map((cell) => cell.trim());
 
-// The numbers of the columns of the table that this line is in; none where it has no column for each browser.
-function columnsOf(lines, number) {
+// The number of the column `browsers` of the table that this line is in; -1 where it has none.
+function columnOf(lines, number) {
   let first = number;
   while (first > 0 && lines[first - 1].startsWith("|")) {
     first -= 1;
   }
-  const cells = cellsOf(lines[first]);
-  const columns = ["Chromium", "Firefox"].map((name) => cells.findIndex((cell) => cell.startsWith(name)));
-  return columns.includes(-1) ? {} : { chromium: columns[0], firefox: columns[1] };
+  return cellsOf(lines[first]).indexOf("browsers");
 }
 
-// A cell `as here` says that this browser does not differ: then none of the row's rules is of it, and else one is.
+// The cell of browsers names those that differ, or both: of each of them one of the row's rules is, and of no other.
 function rowFaults(lines, line, number) {
   const rows = [...line.matchAll(LINK)].map(([, name]) => rules.find((rule) => rule.name === name)).filter(Boolean);
-  const columns = rows.length > 0 && line.startsWith("|") ? columnsOf(lines, number) : {};
-  const differs = (browser) => cellsOf(line)[columns[browser]] !== "as here";
-  return Object.keys(columns).filter((browser) => differs(browser) !== rows.some((rule) => rule.browsers.includes(browser)))
+  const column = rows.length > 0 && line.startsWith("|") ? columnOf(lines, number) : -1;
+  const named = column === -1 ? "" : cellsOf(line)[column];
+  const differs = (browser) => named.startsWith("both: ") || named.toLowerCase().includes(browser + ": ");
+  return (column === -1 ? [] : ["chromium", "firefox"])
+    .filter((browser) => differs(browser) !== rows.some((rule) => rule.browsers.includes(browser)))
     .map((browser) => "docs/BROWSERS.md, line " + (number + 1) + ", and its rules say other things of " + browser);
 }
 

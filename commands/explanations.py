@@ -50,7 +50,7 @@ CORS_CHECK = [
                    and c.allowed_origin is None),
         "the answer is 400, as a TLS port gives it when it is asked in plain; `net` speaks no TLS, and {c.route} was asked "
         "in plain", "", "let the route lead to the server's plain port, or to a side process that ends TLS",
-        "../check-your-server.md#what-the-scenario-says"),
+        "../why.md#your-own-server"),
     Way("cors/origin-null", "7 12", lambda c: c.origin == "null",
         "the request says `Origin: null`, since a redirect led it from another origin to this one, and the answer "
         "{c.allows}", ALLOW_ORIGIN, "{change}; or redirect within one origin", "redirects.md#origin-null", changes.origin_null),
@@ -311,9 +311,9 @@ ANSWERS = [
         "{change}", BODY, changes.body_or_no_integrity),
     Way("body/not-its-coding", "22 s", lambda c: c.is_short and c.wrong_coding is not None,
         "the body is not {c.wrong_coding}, as Content-Encoding says{c.but_gzip}", "Content-Encoding",
-        "{c.right_coding}", "../ask.md"),
+        "{c.right_coding}", "../why.md#binask"),
     Way("body/coding-cut", "22 s", lambda c: c.is_short and c.cut_coding is not None,
-        "the {c.cut_coding} body is cut{c.but_length}", "{c.cutting_header}", "{c.whole_coding}", "../ask.md"),
+        "the {c.cut_coding} body is cut{c.but_length}", "{c.cutting_header}", "{c.whole_coding}", "../why.md#binask"),
     Way("body/two-lengths", "22 s", lambda c: c.is_short and len(c.lengths) > 1,
         "the answer has {c.lengths_told}: both browsers make that a network error "
         "(docs/BROWSERS.md#bytes-on-the-wire)", "Content-Length", "let one of them alone stand there, the right one",
@@ -344,38 +344,38 @@ ANSWERS = [
 DIRECT = [
     Way("link/tls-port", "7 8 12 13 20 21 22 23 24 25 s", lambda c: c.link == "tls-port",
         "{c.request.origin} was asked in plain, and what came is what a port that speaks TLS answers to that", "",
-        "ask for {c.secure_url}", "../ask.md"),
+        "ask for {c.secure_url}", "../why.md#binask"),
     Way("link/certificate", "24", lambda c: c.link == "certificate",
         "this machine does not trust the certificate that {c.request.origin} shows, and a browser would not either", "",
         "let the server show a certificate for this name, with its whole chain; an authority of your own is named by "
-        "SSL_CERT_FILE", "../ask.md"),
+        "SSL_CERT_FILE", "../why.md#binask"),
     Way("link/no-tls", "24", lambda c: c.link == "no-tls",
         "{c.request.origin} was asked over TLS, and the handshake failed: it speaks none, or none that is accepted here", "",
-        "let the server speak TLS at this port{c.or_plain}", "../ask.md"),
+        "let the server speak TLS at this port{c.or_plain}", "../why.md#binask"),
 ]
 
 LINKS = [
     Way("link/no-route", "24", lambda c: c.route is None, "no route of the scenario is for {c.request.origin}", "",
         "add a route, [\"{c.request.origin}\", ADDRESS], where ADDRESS is where your server listens, such as "
         "\"127.0.0.1:8000\"; the origin is to be written so",
-        "../check-your-server.md#what-the-scenario-says"),
+        "../why.md#your-own-server"),
     Way("link/bad-address", "24", lambda c: c.link == "bad-address",
         "the route's address `{c.route}` is none: a host or an IP address, a colon and a port", "",
-        "write it so: 127.0.0.1:8000", "../check-your-server.md#what-the-scenario-says"),
+        "write it so: 127.0.0.1:8000", "../why.md#your-own-server"),
     Way("link/unknown-name", "24", lambda c: c.link == "unknown-name",
         "the name in the route's address `{c.route}` is not known here", "",
-        "write an IP address, or a name that this machine can look up", "../check-your-server.md#what-the-scenario-says"),
+        "write an IP address, or a name that this machine can look up", "../why.md#your-own-server"),
     Way("link/refused", "24", lambda c: c.link == "refused", "nothing listens at {c.route}", "",
-        "start the server, or mend the port of the route", "../check-your-server.md#what-the-scenario-says"),
+        "start the server, or mend the port of the route", "../why.md#your-own-server"),
     Way("link/unreached", "24", lambda c: c.link == "unreached",
         "no connection to {c.route} came about until the time limit", "",
         "look whether a firewall keeps it back, or whether another program listens there",
-        "../check-your-server.md#how-to-read-what-it-prints"),
+        "../why.md#your-own-server"),
     Way("link/hang", "24", lambda c: c.is_silent,
         "the server at {c.route} took the request, and nothing more came until the time limit", "",
-        "look why it does not answer; --timeout gives it longer", "../check-your-server.md#how-to-read-what-it-prints"),
+        "look why it does not answer; --timeout gives it longer", "../why.md#your-own-server"),
     Way("link/reset", "24", always, "the connection to {c.route} broke before the head of the answer was whole", "",
-        "look into the server's log: it ended, or reset the connection", "../check-your-server.md#how-to-read-what-it-prints"),
+        "look into the server's log: it ended, or reset the connection", "../why.md#your-own-server"),
     Way("head/no-server", "25", lambda c: not c.is_net and c.answer.server is None,
         "{c.why_scheme}the scenario has no server {c.request.origin}: {c.near_server}", "",
         "add a server of this origin, with this scheme and this port{c.or_known}", "../scenario.md#servers",
@@ -384,7 +384,7 @@ LINKS = [
         "look into the server's log", HEAD),
     Way("head/tls", "25", lambda c: c.link_problem == "tls", "the server speaks TLS there, and was asked in plain", "",
         "let the route lead to its plain port, or to a side process that ends TLS",
-        "../check-your-server.md#what-the-scenario-says"),
+        "../why.md#your-own-server"),
     Way("head/cut", "25", lambda c: c.link_problem == "cut", "the answer ends before its head does", "",
         "end the head with an empty line", HEAD, changes.mended_head),
     Way("head/bad-line", "25", lambda c: c.link_problem == "bad-line",
@@ -509,7 +509,7 @@ class Explanation:
         condition, change, rule = way.condition, way.change, way.rule
         if c.is_direct:
             condition, change = ASKED.get(way.name, (condition, change))
-            rule = "../ask.md" if rule.startswith("../check-your-server.md") else rule
+            rule = "../why.md#binask" if rule == "../why.md#your-own-server" else rule
         found = [one for one in way.changes(c) if one]
         is_of_cors = key_of(c.result) in (*PREFLIGHTED, "12") and c.about is None and way not in DIRECT
         is_asked = is_of_cors and key_of(c.result) != "12" and c.origin != "null"

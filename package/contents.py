@@ -12,7 +12,7 @@ Format = namedtuple("Format", "name what documents")
 PROGRAMS = [
     Program("fetchplay", "plays documents' fetches against scripted or real HTTP/1.1 servers",
             ["fetchplay play < SCENARIO", "fetchplay net < SCENARIO", "fetchplay gen N"],
-            ["docs/rules/command-line.md", "docs/rules/printed-text.md", "docs/check-your-server.md"],
+            ["docs/rules/command-line.md", "docs/rules/printed-text.md"],
             ["play", "net", "gen"]),
     Program("cspreport", "plays documents' fetches, and sends the reports of what their policies forbid",
             ["cspreport play < SCENARIO"], ["docs/rules/reports.md"], ["play"]),
@@ -46,7 +46,7 @@ FORMATS = [Format("fiorrudda-scenario", "the scenarios that fetchplay plays", ["
 FOLDERS = {
     "commands/lints": (".py",),
     "docs": (".md", ".png"),
-    "examples": (".json", ".md", ".out", ".err", ".table"),
+    "examples": (".json", ".md", ".out", ".err", ".table", "nginx.conf", "Caddyfile", "cors.js"),
     "gallery": (".json", ".md", ".txt"),
     "schema": (".json", ".md"),
 }
