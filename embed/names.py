@@ -85,9 +85,12 @@ def words(file: str, kind: str, names_in: Union[str, None], numbered_in: str) ->
     """The words of a scenario for a type, each with its number in the C library."""
     rows = found(WORD % kind, file)
     names = named(names_in, kind) if names_in else {variant: word for word, variant in rows}
-    if any(names[variant] != word for word, variant in rows):
+    if any(names.get(variant) != word for word, variant in rows):
         raise Fault(f"crates/{file} has another word for a {kind} than crates/{names_in}")
     by_variant = numbers(numbered_in, kind)
+    without = [variant for _, variant in rows if variant not in by_variant]
+    if without:
+        raise Fault(f"crates/{numbered_in} has no number for {kind}::{without[0]}")
     return {word: by_variant[variant] for word, variant in rows}
 
 
@@ -96,6 +99,9 @@ def effective() -> dict[str, str]:
     destinations, directives = named(POLICY, "Destination"), named(POLICY, "Directive")
     arms = found(r"^ +((?:(?: \| )?Destination::\w+)+) => Directive::(\w+),$", EFFECTIVE)
     by = {one: directives[own] for all_of, own in arms for one in re.findall(r"::(\w+)", all_of)}
+    without = [variant for variant in destinations if variant not in by]
+    if without:
+        raise Fault(f"crates/{EFFECTIVE} has no directive for Destination::{without[0]}")
     return {name: by[variant] for variant, name in destinations.items()}
 
 
