@@ -11,7 +11,7 @@ use Rattle.play_text.specs.Text.{play_text}
 use Rattle.c_handle.specs.Codes.{IsWritten}
 use Rattle.c_handle.specs.declared.codes.TheConstants.{NO, OK, TOO_SHORT}
 
--- The text is that of a play of the scenario, in whose history each entry has the turn of its place.
+-- The text is that of a play of the scenario, in whose history one document's entries stand after another's.
 pub record IsTextOfPlay (scenario : Scenario) (text : Text) : Type 0 where
   pub transcripts : List Transcript
   pub history : List Entry
