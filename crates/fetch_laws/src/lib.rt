@@ -1,4 +1,5 @@
-// Laws of the whole fetch: how often it asks the shared book, and with which operations.
+// Laws of the whole fetch: how often it asks the shared book, with which operations, and what of the answers it rests
+// on.
 #![tactic(auto)]
 
 mod laws;

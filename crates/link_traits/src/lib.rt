@@ -1,4 +1,5 @@
-// The outside: where bytes come from and where they go, with counts of its faults.
+// The outside: where bytes come from and where they go, with counts of its faults; links to servers, what makes them
+// and by which routes; accepted connections, and clocks.
 #![tactic(auto)]
 
 mod accepts;

@@ -1,4 +1,5 @@
-// The seats of a play's documents: the book that it opens with, a pass of it and a link for each document.
+// The seats of a play's documents: the book that it opens with, a pass of it and a link for each document. And the
+// links to a scenario's scripted servers.
 #![tactic(auto)]
 
 mod book;

@@ -1,6 +1,6 @@
-// What the header fields of a fetch say of origins, where several rules ask it: the CORS check and the cross-origin
-// resource policy check of an answer, and the Origin and Referer of a request. And what a document may learn of the
-// answer to a preflight.
+// What several rules of a fetch ask: the CORS check and the cross-origin resource policy check of an answer, the Origin
+// and Referer of a request, the referrer that a policy tells, mixed content and bad ports. And what a document may
+// learn of the answer to a preflight.
 #![tactic(auto)]
 
 mod cors_check;

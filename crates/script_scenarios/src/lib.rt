@@ -1,5 +1,5 @@
 // Scenarios as values: documents with their scripts, the hosts that are known, the cookies that are sent, the
-// servers that answer, and where servers listen.
+// servers that answer, and where servers listen. And the commands, conditions and templates of scripts.
 #![tactic(auto)]
 
 mod command;

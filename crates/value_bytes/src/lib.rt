@@ -1,4 +1,4 @@
-// Texts of any bytes, kept, and lists of them.
+// Texts of any bytes, kept, and lists of them; values in a place of their own, and values that several hold.
 #![tactic(auto)]
 
 mod among;

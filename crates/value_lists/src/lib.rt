@@ -1,4 +1,5 @@
-// The items in the values of headers, after the Fetch Standard, section 2.2.2.
+// The items in the values of headers, after the Fetch Standard, section 2.2.2, and what main fetch asks of a response's
+// MIME type: its essence, nosniff, and whether it is blocked.
 #![tactic(auto)]
 
 mod blocking;
