@@ -12,6 +12,9 @@ const { differenceText, NAMES } = require("./show.js");
 const { rules } = require("./rules.js");
 const { documentFaults } = require("./document.js");
 const { foundPlanted } = require("./planted.js");
+const { ALL_NAMES } = require("./reasons.js");
+const { KINDS, TYPES } = require("./grammar.js");
+const engineNames = require("../schema/names.json");
 const corpus = require("./corpus.js");
 
 const USAGE = `usage: browsers/check [--live chromium | --live firefox] [--store] [--jobs N] [NAME ..]
@@ -138,12 +141,19 @@ function ruleFaults(browser, findings) {
     .map((rule) => "the rule " + rule.name + " explains nothing in " + rule.scenario + " in " + NAMES[browser]);
 }
 
+// Tables of words against those of the engine.
+function nameFaults() {
+  const strange = ALL_NAMES.filter((name) => !(name in engineNames.network_errors));
+  return [...strange.map((name) => "browsers/reasons.js: no error is " + name),
+    ...KINDS.filter((kind) => !(kind in TYPES)).map((kind) => "browsers/grammar.js, TYPES: it has not " + kind)];
+}
+
 async function check(given) {
   const named = (name) => given.names.some((one) => name === one || name.startsWith(one + "/"));
   const names = corpus.names().filter((name) => given.names.length === 0 || named(name));
   const engines = new Map(names.map((name) => [name, engineOf(name)]));
   const browsers = given.live === null ? Object.keys(NAMES) : [given.live];
-  const faults = given.names.length === 0 ? documentFaults() : [];
+  const faults = given.names.length === 0 ? [...documentFaults(), ...nameFaults()] : [];
   browsers.filter((browser) => given.live === null && find(browser) === null).forEach((browser) => {
     console.error("browsers/check: there is no " + NAMES[browser] + " here: its stored answers alone are compared");
   });

@@ -3,13 +3,14 @@
 // Random scenarios by area, each from its number alone: the same number gives the same scenario. What comes often in
 // pages comes often here, and in between what tests the edges.
 
+const engineNames = require("../schema/names.json");
+
 const PAGE = "https://shop.test";
 const ORIGINS = [PAGE, "https://api.test", "https://cdn.test", "https://img.shop.test", "https://api.test:8443"];
 const PLAIN = ["http://shop.test", "http://api.test", "http://api.test:8080"];
-const POLICIES = ["no-referrer", "no-referrer-when-downgrade", "same-origin", "origin", "strict-origin",
-  "origin-when-cross-origin", "strict-origin-when-cross-origin", "unsafe-url"];
-const CREDENTIALS = ["omit", "same-origin", "include"];
-const KINDS = ["image", "audio", "video", "style", "script", "font", "manifest"];
+const POLICIES = Object.keys(engineNames.referrer_policies).filter((name) => name !== "");
+const CREDENTIALS = Object.keys(engineNames.credentials);
+const KINDS = Object.keys(engineNames.loads);
 
 // A small generator (mulberry32), good enough to choose by.
 class Chance {
@@ -275,4 +276,4 @@ function made(area, number) {
   return AREAS[area](new Chance(seed));
 }
 
-module.exports = { made, AREAS };
+module.exports = { made, AREAS, KINDS, TYPES };

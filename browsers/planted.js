@@ -3,6 +3,7 @@
 // Plants differences in the engine's play of a scenario, one at a time: an Origin header changed, a preflight left out, a
 // violation more, and others. No rule may explain one, or the rules are too wide.
 
+const engineNames = require("../schema/names.json");
 const { comparePlays, compared } = require("./compare.js");
 const { explainedAt } = require("./explained.js");
 const { policiesOf } = require("./scenario.js");
@@ -87,10 +88,7 @@ function responsesChanged({ result }) {
 
 // ---- what the script read becomes a network error, each in turn (docs/rules/printed-text.md)
 
-const ERRORS = ["Scheme", "BadPort", "Mixed", "CspRequest", "SameOriginMode", "NoCorsRedirectMode", "PreflightCors",
-  "PreflightStatus", "PreflightList", "PreflightMethod", "PreflightHeader", "CorsCheck", "Corp", "RedirectMode", "BadLocation",
-  "RedirectScheme", "TooManyRedirects", "RedirectCredentials", "CspResponse", "Mime", "NoSniff", "Integrity", "Coding",
-  "LinkFault", "BadHead", "HeadTooBig"];
+const ERRORS = Object.keys(engineNames.network_errors);
 
 function errorsForAnswers({ result, command }) {
   const read = ["response", "loaded"].includes(result.result);

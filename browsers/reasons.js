@@ -50,4 +50,7 @@ function errorsOf(browser, reasons) {
   return rows.length === 0 ? null : rows.flatMap(([, names]) => names);
 }
 
-module.exports = { errorsOf };
+// The names in these tables, each of which is to be that of an error of the engine.
+const ALL_NAMES = Object.values(TABLES).flat().flatMap(([, names]) => names);
+
+module.exports = { errorsOf, ALL_NAMES };

@@ -3,11 +3,10 @@ import argparse
 import re
 from urllib.parse import quote
 
-from commands import stray_words, streams
+from commands import names, stray_words, streams
 
-KINDS = ["image", "audio", "video", "style", "script", "font", "manifest"]
-POLICIES = ["no-referrer", "no-referrer-when-downgrade", "origin", "origin-when-cross-origin", "same-origin",
-            "strict-origin", "strict-origin-when-cross-origin", "unsafe-url"]
+KINDS = list(names.LOADS)
+POLICIES = sorted(name for name in names.REFERRER_POLICIES if name)
 # Words of curl that change nothing: redirects are followed, and what they print is printed, or is decoded, anyhow.
 WITHOUT_EFFECT = [("-i", "--include"), ("-s", "--silent"), ("-S", "--show-error"), ("-v", "--verbose"),
                   ("-L", "--location"), ("-g", "--globoff"), ("--compressed",), ("--http1.0",), ("--http1.1",),
@@ -92,12 +91,12 @@ def of_request(given):
     for words, kind, form, told in BODIES:
         given.add_argument(*words, dest="bodies", metavar=form, action="append", default=[], help=told,
                            type=lambda text, kind=kind: (kind, text))
-    given.add_argument("--credentials", choices=["omit", "same-origin", "include"])
-    given.add_argument("--mode", choices=["cors", "no-cors", "same-origin"])
-    given.add_argument("--redirect", choices=["follow", "error", "manual"])
+    given.add_argument("--credentials", choices=list(names.CREDENTIALS))
+    given.add_argument("--mode", choices=[mode for mode in names.MODES if mode != "navigate"])
+    given.add_argument("--redirect", choices=list(names.REDIRECTS))
     given.add_argument("--integrity", metavar="TEXT")
     given.add_argument("--load", metavar="KIND", choices=KINDS, help="what an element loads: " + ", ".join(KINDS))
-    given.add_argument("--crossorigin", choices=["anonymous", "use-credentials"], help="the element's attribute")
+    given.add_argument("--crossorigin", choices=list(names.CROSSORIGINS), help="the element's attribute")
     given.add_argument("--twice", action="store_true",
                        help="ask again: what the preflight cache and known hosts change")
 

@@ -4,6 +4,7 @@ import re
 import subprocess
 
 from commands import running
+from commands.names import STATUSES
 
 LINE = re.compile(rb"not a play: (\w+) (.*)\n", re.S)
 ENTRY = re.compile(r"(\d+) (\d+) (.*): (yes|no|done)")
@@ -34,10 +35,10 @@ def verdict(scenario, play):
         ran = subprocess.run([program()], input=framed(scenario, play), stdout=subprocess.PIPE)
     except OSError as error:
         raise running.Failed("%s: %s" % (program(), error.strerror)) from error
-    if ran.returncode == 0 and ran.stdout == b"play\n":
+    if ran.returncode == STATUSES["Ok"] and ran.stdout == b"play\n":
         return None
     found = LINE.fullmatch(ran.stdout)
-    if ran.returncode != 2 or not found:
+    if ran.returncode != STATUSES["Refused"] or not found:
         raise running.Failed("%s ended with the status %d" % (program(), ran.returncode))
     return Verdict(found.group(1).decode(), found.group(2).decode("utf-8", "replace"))
 

@@ -10,6 +10,7 @@ from urllib.parse import urlsplit
 
 from commands import answers, csp, edits, guards, results
 from commands.known_hosts import AT_FIRST, KNOWN_ITSELF
+from commands.names import UPGRADEABLE_LOADS
 from commands.needs import (ALLOW_CREDENTIALS, ALLOW_HEADERS, ALLOW_METHODS, ALLOW_ORIGIN, EXPOSE_HEADERS, KEPT_METHODS,
                             TOKEN, Needs, each_once, items_of, missed, unseen)
 from commands.play_text import header_of, is_preflight
@@ -255,7 +256,7 @@ class Case:
             return None
         if self.upgrades_all:
             return "policy"
-        is_upgradeable = self.kind in ("image", "audio", "video") and self.is_secure and not is_trustworthy(hop.asked)
+        is_upgradeable = self.kind in UPGRADEABLE_LOADS and self.is_secure and not is_trustworthy(hop.asked)
         return "mixed" if is_upgradeable and not is_address(host_of(hop.asked)) else None
 
     @property
@@ -270,7 +271,7 @@ class Case:
     @property
     def is_upgradeable_address(self):
         """Whether mixed content would upgrade it, were its host no IP address."""
-        return self.kind in ("image", "audio", "video") and is_address(host_of(self.url))
+        return self.kind in UPGRADEABLE_LOADS and is_address(host_of(self.url))
 
     # ---- the answer
 

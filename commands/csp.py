@@ -5,12 +5,12 @@ import re
 from collections import namedtuple
 from urllib.parse import unquote_to_bytes, urlsplit
 
+from commands import names
 from commands.urls import is_address
 
 FALLBACK = {"style-src-elem": ["style-src-elem", "style-src", "default-src"],
             "script-src-elem": ["script-src-elem", "script-src", "default-src"]}
-EFFECTIVE = {"fetch": "connect-src", "image": "img-src", "audio": "media-src", "video": "media-src", "font": "font-src",
-             "manifest": "manifest-src", "style": "style-src-elem", "script": "script-src-elem"}
+EFFECTIVE = names.EFFECTIVE_DIRECTIVES
 HEADERS = {"content-security-policy": True, "content-security-policy-report-only": False}  # whether it is enforced
 KEYWORDS = ("self", "none", "unsafe-inline", "unsafe-eval", "strict-dynamic", "unsafe-hashes", "report-sample",
             "wasm-unsafe-eval")

@@ -10,6 +10,7 @@ from commands import (asking, edits, findings, json_text, known_hosts, lints, no
 from commands.asking import Wrong
 from commands.case import CAUSES
 from commands.explanations import NOTHING, TABLE, explain, lines_of
+from commands.names import DIRECTIVES
 from commands.schema import Schema
 
 SCHEMA = os.path.join(running.ROOT, "schema", "expect.schema.json")
@@ -18,7 +19,6 @@ OTHERS = ("sent", "never sent", *policy_questions.KEYS)  # the keys of `expect` 
 MOST_UNNAMED = 20  # lines
 ONLY_STRICT = "all came as expected; --strict alone makes it `not ok`, for these warnings:"
 KEY = re.compile(r"(?:document ([0-9]{1,3}) )?(fetch|load) ([0-9]{1,4})")
-DIRECTIVES = ["connect-src", "img-src", "media-src", "font-src", "manifest-src", "style-src-elem", "script-src-elem"]
 # As a play prints it behind the word violation, as far as a test says it.
 VIOLATION = re.compile(r"(?:([0-9]{1,2}) )?(?:(enforce|report) )?(\S+)(?: (\S+))?")
 

@@ -6,6 +6,7 @@ import fiorrudda
 
 from commands import guards
 from commands.ask_words import KINDS, Wrong
+from commands.names import CORS_LOADS
 from commands.scenario import joined, origin_of
 
 OWN = "a browser sends its own"
@@ -98,7 +99,7 @@ class Said:
         elif kind in KINDS and self.body is None and self.method in (None, "GET"):
             self.load = kind
             with_cookies = self.given.pasted or "cookie" in self.values
-            if mode == "cors" and kind not in ("font", "manifest"):
+            if mode == "cors" and kind not in CORS_LOADS:
                 self.crossorigin = self.crossorigin or ("use-credentials" if with_cookies else "anonymous")
             self.note("the copied request was that of an element: --load %s%s" % (
                 kind, " --crossorigin " + self.crossorigin if self.crossorigin else ""))

@@ -2,8 +2,10 @@
 the history. What is no play is refused with its line."""
 import re
 
+from commands.names import RESPONSE_TYPES
+
 RESULT = re.compile(r"result (?:(error|failed) (?:(type-error) )?(\d+) (\w+)(?: (\S+))?|type-error (\d+) (\w+)(?: (\d+))?"
-                    r"|(loaded)|(basic|cors|opaque|opaqueredirect) (\d+) (.*))")
+                    r"|(loaded)|(%s) (\d+) (.*))" % "|".join(RESPONSE_TYPES))
 BODY = re.compile(r"  body (?:(none)|(whole) (\d+): (.*)|(cut|fault) (\d+)|(toobig))")
 HEADER = re.compile(r"  ([^:]+): (.*)")
 DOCUMENT = re.compile(r"document (\d+) (.*)")

@@ -7,6 +7,7 @@ import re
 from commands import asking, csp, findings
 from commands.case import LOCAL, SOCKETS
 from commands.explanations import explain, explain_policies, lines_of
+from commands.names import LOADS
 from commands.refusals import nearest
 from commands.scenario import joined, origin_of
 from commands.urls import scheme_of
@@ -14,7 +15,7 @@ from commands.urls import scheme_of
 KEYS = ("allowed", "blocked", "reported", "violating", "not violating")
 KEPT_OUT = ("blocked", "reported", "violating")
 LET_IN = ("allowed", "not violating")
-KINDS = ("fetch", "image", "audio", "video", "style", "script", "font", "manifest")
+KINDS = ("fetch", *LOADS)
 ITEM = re.compile(r"(?:document ([0-9]{1,3}) )?(\S+) (\S.*)", re.S)
 EXAMPLE = '"script https://cdn.example/app.js"'
 # An origin whose server a scenario takes as it is written here: of a host that is no address and needs no coding.

@@ -1,13 +1,11 @@
 """The results as a test names them."""
 import re
 
-NETWORK_ERRORS = ["Scheme", "BadPort", "Mixed", "CspRequest", "SameOriginMode", "NoCorsRedirectMode", "PreflightCors",
-                  "PreflightStatus", "PreflightList", "PreflightMethod", "PreflightHeader", "CorsCheck", "Corp",
-                  "RedirectMode", "BadLocation", "RedirectScheme", "TooManyRedirects", "RedirectCredentials", "CspResponse",
-                  "Mime", "NoSniff", "Integrity", "Coding", "LinkFault", "BadHead", "HeadTooBig"]
-FAULTS = ["BadUrl", "UrlCredentials", "BadMethod", "ForbiddenMethod", "BodyWithGet", "NoCorsMethod", "BadHeader",
-          "NavigateMode", "TooLong"]
-TYPES = ["basic", "cors", "opaque", "opaqueredirect", "loaded", "failed", "type-error"]
+from commands import names
+
+NETWORK_ERRORS = list(names.NETWORK_ERRORS)  # by their numbers, from 1
+FAULTS = list(names.REQUEST_FAULTS)
+TYPES = names.RESPONSE_TYPES + ["loaded", "failed", "type-error"]
 WORDS = ["read", "refused", "no-verdict"] + TYPES + NETWORK_ERRORS + FAULTS
 
 

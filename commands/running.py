@@ -5,6 +5,8 @@ import subprocess
 import sys
 import threading
 
+from commands.names import STATUSES
+
 REFUSED = re.compile(r"^fetchplay: scenario refused at (.*)$", re.M)
 # What bin/proved says before it proves and builds, and where that failed.
 BUILDS = b": proving and building the program, "
@@ -36,13 +38,13 @@ def played(scenario, word="play"):
         raise Failed("%s: %s" % (program(), error.strerror)) from error
     complaint = complaints.decode("utf-8", "replace")
     refused = REFUSED.search(complaint)
-    if status == 2 and refused:
+    if status == STATUSES["Refused"] and refused:
         raise Refused(refused.group(1))
     unbuilt = UNBUILT.search(complaint)
     if status == 125 and unbuilt:
         raise Failed("%s was not built, as the end of %s tells; FETCHPLAY names another program, such as bin/try"
                      % (program(), unbuilt.group(1)))
-    if status != 0:
+    if status != STATUSES["Ok"]:
         last = (complaint.strip().splitlines() or ["it said nothing"])[-1]
         raise Failed("%s ended with the status %d: %s" % (program(), status, last))
     return text.decode("latin-1")

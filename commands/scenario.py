@@ -3,6 +3,8 @@ import functools
 import re
 from urllib.parse import urljoin, urlsplit
 
+from commands.names import CORS_LOADS
+
 MOST_COMMANDS = 16384
 FETCH = {"method": "GET", "mode": "cors", "credentials": "same-origin", "redirect": "follow", "headers": [], "body": None,
          "integrity": ""}
@@ -56,7 +58,7 @@ class Command:
 def load_options(given):
     """Mode and credentials mode of a load, by its kind and its attribute crossorigin."""
     attribute = given.get("crossorigin")
-    cors = attribute is not None or given["kind"] in ("font", "manifest")
+    cors = attribute is not None or given["kind"] in CORS_LOADS
     include = attribute == "use-credentials" or not cors
     return {**FETCH, "mode": "cors" if cors else "no-cors", "credentials": "include" if include else "same-origin", **given}
 

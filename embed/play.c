@@ -3,6 +3,7 @@
 // on standard error where it is asked for.
 #include "calls.h"
 #include "fiorrudda.h"
+#include "names.h"
 #include <inttypes.h>
 #include <stdio.h>
 #include <stdlib.h>
@@ -241,8 +242,7 @@ static void put_outcome(play *p) {
 }
 
 static void put_fault(play *p, uint32_t fault, uint32_t header) {
-    static const char *const names[] = {"",           "BadUrl",    "UrlCredentials", "BadMethod", "ForbiddenMethod", "BodyWithGet",
-                                        "NoCorsMethod", "BadHeader", "NavigateMode",   "TooLong"};
+    static const char *const names[] = {FAULT_NAMES};
     printf("result %s %u %s", p->loads ? "failed type-error" : "type-error", fault, names[fault]);
     if (fault == FIORRUDDA_FAULT_BAD_HEADER)
         printf(" %u", header);
@@ -419,7 +419,7 @@ static void begin_document(play *p) {
 }
 
 static void begin_request(play *p, bool loads) {
-    static const char *const kinds[] = {"", "image", "audio", "video", "style", "script", "font", "manifest"};
+    static const char *const kinds[] = {LOAD_NAMES};
     p->loads = loads;
     if (loads) {
         uint32_t kind = (uint32_t)next_number();

@@ -21,7 +21,7 @@ def answer(servers, act):
 
 
 def policy(asked):
-    return f.ReferrerPolicy(scripts.POLICIES.index(asked.get("referrer_policy", "")))
+    return f.ReferrerPolicy(scripts.POLICIES[asked.get("referrer_policy", "")])
 
 
 class Play(scripts.Script):

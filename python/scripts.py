@@ -1,10 +1,12 @@
 """Scripts of scenarios (docs/scenario.md), for what plays them by the library: plays.py by Python's module, embed/flat by C."""
+import json
+import pathlib
 import re
 from typing import NamedTuple, Optional, Tuple
 
 MOST_COMMANDS = 16384
-POLICIES = ["", "no-referrer", "no-referrer-when-downgrade", "same-origin", "origin", "strict-origin",
-            "origin-when-cross-origin", "strict-origin-when-cross-origin", "unsafe-url"]
+NAMES = json.loads((pathlib.Path(__file__).resolve().parent.parent / "schema/names.json").read_text("utf-8"))
+POLICIES = NAMES["referrer_policies"]
 TEMPLATE = re.compile(rb"\$\{(status|type|url|body|header:([^}]*))\}")
 
 
@@ -80,7 +82,7 @@ def referrer_policy(headers):
     for name, value in headers:
         if name.lower() == "referrer-policy":
             tokens = [token.strip().lower() for token in value.split(",")]
-            found = ([POLICIES.index(token) for token in tokens if token and token in POLICIES] or [found])[-1]
+            found = ([POLICIES[token] for token in tokens if token and token in POLICIES] or [found])[-1]
     return found
 
 

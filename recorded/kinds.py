@@ -7,10 +7,11 @@ import re
 from dataclasses import dataclass, field
 from typing import Optional
 
+from commands import names
 from commands.urls import scheme_of
 from recorded.model import Chain, Element, Entry, Html
 
-LOADS = ("audio", "font", "image", "manifest", "script", "style", "video")
+LOADS = tuple(sorted(names.LOADS))
 DOCUMENT, FRAME, FETCH = "document", "frame", "fetch"
 DESTINATIONS = {**{kind: kind for kind in LOADS}, "document": DOCUMENT, "iframe": FRAME, "frame": FRAME, "embed": FRAME,
                 "object": FRAME, "empty": FETCH}
@@ -31,7 +32,7 @@ ENDINGS = {"css": "style", "js": "script", "mjs": "script", "webmanifest": "mani
 NAVIGATION = "text/html,application/xhtml+xml"  # as browsers' Accept begins where they open a page
 ENDING = re.compile(r"\.([A-Za-z0-9]+)$")
 ARTICLES = {"image": "an", "audio": "an"}
-MODES = ("cors", "no-cors", "same-origin")
+MODES = tuple(mode for mode in names.MODES if mode != "navigate")
 WITHOUT = "taken to be asked without credentials, since no cookie went along"
 
 
@@ -120,7 +121,7 @@ def asked_of(chain: Chain, page_origin: str, html: Optional[Html], element: Opti
 
 
 def of_load(chain: Chain, asked: Asked, mode: str, page_origin: str) -> Asked:
-    is_cors = asked.kind in ("font", "manifest")
+    is_cors = asked.kind in names.CORS_LOADS
     entry = chain.first
     if asked.element and asked.element.crossorigin and mode != "no-cors":
         asked.crossorigin = asked.element.crossorigin

@@ -10,6 +10,7 @@ from collections import namedtuple
 from typing import Any, Iterator, Optional
 
 from commands import answers
+from commands.names import CORS_LOADS
 from commands.running import ROOT
 from commands.scenario import Scenario, joined
 from recorded import made
@@ -152,7 +153,7 @@ def without_policies(scenario: dict[str, Any]) -> tuple[dict[str, Any], str]:
 def mode_of(command: dict[str, Any]) -> str:
     if "fetch" in command:
         return command["fetch"].get("mode", "cors")
-    is_cors = command["load"]["kind"] in ("font", "manifest") or "crossorigin" in command["load"]
+    is_cors = command["load"]["kind"] in CORS_LOADS or "crossorigin" in command["load"]
     return "cors" if is_cors else "no-cors"
 
 

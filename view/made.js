@@ -41,6 +41,12 @@ function widePlay(documents) {
   return "fetchplay 1\n" + parts.join("") + "history\ndone\n";
 }
 
+// A fetch that an enforced policy refuses by a directive.
+function violatingPlay(directive) {
+  return ["fetchplay 1", "document 0 http://page.test", "fetch 0",
+    "violation 0 enforce " + directive + " http://a.test/", "result error 4 CspRequest", "end finished", "history", "done", ""].join("\n");
+}
+
 // What would end a script, begin a comment, or be run, if a page took it for more than text.
 const HOSTILE = ["</script><script>window.ran=1</script>", "<!--<script>", "-->", "\"'`${window.ran=1}",
   "<img src=x onerror=window.ran=1>", "]]></style><svg onload=window.ran=1>", "&lt;/script&gt; &#60; \\x5cu003c"];
@@ -110,4 +116,4 @@ function refusedTexts(good) {
   ];
 }
 
-module.exports = { ADVICE, ANSWER, WARNING, hostilePlay, longPlay, refusedTexts, toldPlay, widePlay };
+module.exports = { ADVICE, ANSWER, WARNING, hostilePlay, longPlay, refusedTexts, toldPlay, violatingPlay, widePlay };

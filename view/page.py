@@ -6,8 +6,8 @@ import json
 import os
 
 FOLDER = os.path.dirname(os.path.realpath(__file__))
-SCRIPTS = ["errors.js", "play.js", "told.js", "steps.js", "shapes.js", "shown.js", "svg.js", "rows.js", "draw.js",
-           "controls.js", "start.js"]
+SCRIPTS = ["names.js", "errors.js", "play.js", "told.js", "steps.js", "shapes.js", "shown.js", "svg.js", "rows.js",
+           "draw.js", "controls.js", "start.js"]
 NO_PLAY = '<script type="application/json" id="play">null</script>'
 
 

@@ -3,7 +3,8 @@
 // Reads the printed text of a play by the grammar of docs/rules/printed-text.md. Each value has `line`, the number of
 // its first line, counted from 1. What is no play is refused with a sentence and the line where it goes wrong.
 
-const refusals = typeof module === "undefined" ? { networkErrors, requestFaults } : require("./errors.js");
+const known = typeof module === "undefined" ? { names: engineNames, networkErrors, requestFaults }
+  : { names: require("./names.js"), ...require("./errors.js") };
 
 class PlayError extends Error {
   constructor(line, sentence) {
@@ -33,11 +34,12 @@ function whole(pattern) {
 
 const DOCUMENT = whole("document " + NUMBER + " " + ORIGIN);
 const FETCH = whole("fetch " + NUMBER);
-const LOAD = whole("load " + NUMBER + " (image|audio|video|style|script|font|manifest)");
+const LOAD = whole("load " + NUMBER + " (" + Object.keys(known.names.loads).join("|") + ")");
 const SEND = whole("send " + SERVER);
-const DIRECTIVES = "((?:connect|img|media|font|manifest)-src|(?:style|script)-src-elem)";
-const VIOLATION = whole("violation " + NUMBER + " (enforce|report) " + DIRECTIVES + " " + URL_TEXT);
-const RESPONSE = whole("result (basic|cors|opaque|opaqueredirect) " + NUMBER + " (\\(\\)|https?://[!-~]+)");
+// A directive that is unknown is drawn as any other.
+const VIOLATION = whole("violation " + NUMBER + " (enforce|report) ([a-z]+(?:-[a-z]+)*) " + URL_TEXT);
+const RESPONSE = whole("result (" + known.names.response_types.join("|") + ") " + NUMBER
+  + " (\\(\\)|https?://[!-~]+)");
 const NETWORK_ERROR = whole("result (error|failed) " + NUMBER + " ([A-Za-z]+)(?: (" + TOKEN + "))?");
 const FAULT = whole("result (type-error|failed type-error) " + NUMBER + " ([A-Za-z]+)(?: " + NUMBER + ")?");
 const END = whole("end (finished|limit commands|limit fetches|limit text)");
@@ -221,13 +223,13 @@ function checkRefusal(table, words, detailed, line) {
 }
 
 function readError(lines, line, words) {
-  const refusal = checkRefusal(refusals.networkErrors, words, "PreflightHeader", line);
+  const refusal = checkRefusal(known.networkErrors, words, "PreflightHeader", line);
   return { kind: "result", result: "error", of: words[1] === "error" ? "fetch" : "load", ...refusal,
     header: words[4] === undefined ? null : words[4], line };
 }
 
 function readFault(lines, line, words) {
-  const refusal = checkRefusal(refusals.requestFaults, words, "BadHeader", line);
+  const refusal = checkRefusal(known.requestFaults, words, "BadHeader", line);
   const of = words[1] === "type-error" ? "fetch" : "load";
   if (of === "load" && refusal.number !== 1) {
     throw new PlayError(line, "a load has no other fault than 1 BadUrl");

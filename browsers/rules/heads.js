@@ -1,5 +1,6 @@
 "use strict";
 
+const engineNames = require("../../schema/names.json");
 const { isHeader, urlOf, methodOf, hostOf, originOf, documentOrigin, isSecurePage, isLoopback, isAfterDetour,
   keyOf, cookieOf, referrerPolicyOf } = require("./looked.js");
 
@@ -8,7 +9,7 @@ const both = ["chromium", "firefox"];
 
 const siteOf = (url) => hostOf(url).split(".").slice(-2).join(".");
 const isCorsLoad = (load) => load !== undefined
-  && (["font", "manifest"].includes(load.kind) || load.crossorigin !== undefined);
+  && (engineNames.cors_loads.includes(load.kind) || load.crossorigin !== undefined);
 const isNoCorsPost = (context, difference) => context.asked.mode === "no-cors" && methodOf(difference.request) === "POST";
 
 // Whether an earlier request has a shorter Referer: what is cut stays so.

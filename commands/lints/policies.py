@@ -8,9 +8,6 @@ from commands.lints import grammar
 from commands.lints.entry import DOCUMENT
 from commands.lints.reading import REPORT_ONLY, hostname
 
-# What each kind of request is decided by.
-EFFECTIVE = {"fetch": "connect-src", "image": "img-src", "audio": "media-src", "video": "media-src", "font": "font-src",
-             "manifest": "manifest-src", "style": "style-src-elem", "script": "script-src-elem"}
 # A policy in quotes; and one that begins with the name of its header, or with HTML.
 QUOTED = re.compile("[\"'`\u201c\u2018]\\s*([A-Za-z-]+)")
 PASTED = re.compile(r"(?:x-)?content-security-policy(?:-report-only)?\s*:|<meta\b", re.I)
@@ -144,7 +141,7 @@ class Directive:
         """The URLs that the page asks for where this directive decides, by their hosts."""
         found = {}
         for ask in self.policy.headers.asks if self.where == DOCUMENT else []:
-            if self.policy.decides(EFFECTIVE[ask.kind]) == self.name:
+            if self.policy.decides(csp.EFFECTIVE[ask.kind]) == self.name:
                 found.setdefault(hostname(ask.url), []).append(ask.url)
         return found
 

@@ -6,6 +6,7 @@ import re
 from urllib.parse import urlsplit
 
 from commands.lints.entry import COMMAND
+from commands.names import CORS_LOADS
 from commands.scenario import joined, origin_of
 
 POLICY = "content-security-policy"
@@ -215,5 +216,5 @@ class Options:
     def is_opaque(self):
         """Whether its answer is of another origin, and in mode no-cors."""
         if self.is_load:
-            return self.ask.is_foreign and "crossorigin" not in self.options and self.kind not in ("font", "manifest")
+            return self.ask.is_foreign and "crossorigin" not in self.options and self.kind not in CORS_LOADS
         return self.ask.is_foreign and self.options.get("mode") == "no-cors"

@@ -1,12 +1,13 @@
 """Lints of Referrer-Policy."""
 import re
 
+from commands import names
 from commands.lints.entry import Lint, nearest, write
 
 HEADER = "Referrer-Policy"
 FIRST = ("no-referrer", "no-referrer-when-downgrade", "origin", "origin-when-cross-origin", "unsafe-url")
 # Words that came later: an older word before them serves browsers that do not know them.
-LATER = ("same-origin", "strict-origin", "strict-origin-when-cross-origin")
+LATER = tuple(name for name in names.REFERRER_POLICIES if name and name not in FIRST)
 KNOWN = FIRST + LATER
 OLD = {"never": "no-referrer", "always": "unsafe-url", "default": "no-referrer-when-downgrade",
        "origin-when-crossorigin": "origin-when-cross-origin"}

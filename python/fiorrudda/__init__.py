@@ -11,6 +11,8 @@ import os
 import pathlib
 from typing import Any, Callable, Iterable, List, NamedTuple, Optional, Sequence, Tuple, TypeVar, Union
 
+from .names import REQUEST_FAULTS
+
 __all__ = [
     "Ask",
     "Book",
@@ -124,8 +126,7 @@ class NoRequest(FiorruddaError):
     rule was asked, and not a fetch."""
 
     code = 11
-    NAMES = ("", "BadUrl", "UrlCredentials", "BadMethod", "ForbiddenMethod", "BodyWithGet", "NoCorsMethod", "BadHeader",
-             "NavigateMode", "TooLong")
+    NAMES = ("", *REQUEST_FAULTS)
 
     def __init__(self, number: int, header: int) -> None:
         self.number, self.name = number, self.NAMES[number]

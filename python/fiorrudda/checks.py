@@ -13,6 +13,7 @@ import ctypes
 from typing import Any, Callable, Iterable, List, NamedTuple, Optional, Tuple, Union
 
 from . import Headers, Text, _Handle, _lent, _lib, _number_of, _told, _written
+from .names import NETWORK_ERRORS
 from .whole import Client, Load, Policies, Request
 
 __all__ = [
@@ -25,7 +26,7 @@ Asked = Union[Request, Load]
 Listed = Union[Headers, Iterable[Tuple[Text, Text]]]
 _CHECKS = ["enforced", "report-only", "response"]
 _TAINTINGS = ["basic", "cors", "opaque"]
-_ERRORS = {7: "PreflightCors", 8: "PreflightStatus", 9: "PreflightList", 10: "PreflightMethod", 11: "PreflightHeader"}
+_ERRORS = {number: name for name, number in NETWORK_ERRORS.items()}
 
 
 class Violation(NamedTuple):

@@ -22,15 +22,22 @@ from typing import TYPE_CHECKING, Callable, Dict, Iterable, Iterator, List, Name
 from . import (
     Book, Headers, NoRequest, ReferrerPolicy, Text, _Handle, _known, _lent, _lib, _number_of, _Thing, _time, _told, _written,
 )
+from .names import CREDENTIALS, CROSSORIGINS, LOADS, MODES, REDIRECTS
 
 if TYPE_CHECKING:
     from .checks import Violation
 
-_MODES = ["same-origin", "no-cors", "cors", "navigate"]
-_CREDENTIALS = ["omit", "same-origin", "include"]
-_REDIRECTS = ["follow", "error", "manual"]
-_CROSSORIGINS = [None, "anonymous", "use-credentials"]
-_KINDS = ["image", "audio", "video", "style", "script", "font", "manifest"]
+
+def _by_number(table: Dict[str, int]) -> List[str]:
+    """The words of a table in the order of their numbers, which stand one after the other."""
+    return sorted(table, key=table.__getitem__)
+
+
+_MODES = _by_number(MODES)
+_CREDENTIALS = _by_number(CREDENTIALS)
+_REDIRECTS = _by_number(REDIRECTS)
+_CROSSORIGINS = [None, *_by_number(CROSSORIGINS)]
+_KINDS = _by_number(LOADS)
 _BOOK_CALLS = ["match", "note", "covers", "learn", "clear"]
 _ENDS = ["null", "whole", "cut", "fault", "toobig"]
 _A_RESPONSE, _A_LOAD, _AN_ERROR = range(3)

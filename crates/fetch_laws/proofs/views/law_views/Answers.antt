@@ -1,5 +1,5 @@
 use Rattle.fetch_laws.proofs.AlikeLemmas.{goes-by_views, runs-alike, runs-apart}
-use Rattle.fetch_laws.proofs.laws.law_views.Goals as goal
+use Rattle.fetch_laws.proofs.views.law_views.Goals as goal
 
 pub returns-clause-blind : goal.returns-clause-blind
 returns-clause-blind c = goes-by_views
