@@ -49,7 +49,7 @@ CORS_CHECK = [
         lambda c: (c.is_net and not c.is_direct and c.status == 400 and c.request.origin.startswith("https:")
                    and c.allowed_origin is None),
         "the answer is 400, as a TLS port gives it when it is asked in plain; `net` speaks no TLS, and {c.route} was asked "
-        "in plain", "", "let the route lead to the server's plain port, or to a side process that ends TLS",
+        "in plain", "", "let the route lead to the server's plain port, or to a side process that adds TLS",
         "../why.md#your-own-server"),
     Way("cors/origin-null", "7 12", lambda c: c.origin == "null",
         "the request says `Origin: null`, since a redirect led it from another origin to this one, and the answer "
@@ -383,7 +383,7 @@ LINKS = [
     Way("head/nothing", "25", lambda c: c.link_problem == "nothing", "the server closed the connection without an answer", "",
         "look into the server's log", HEAD),
     Way("head/tls", "25", lambda c: c.link_problem == "tls", "the server speaks TLS there, and was asked in plain", "",
-        "let the route lead to its plain port, or to a side process that ends TLS",
+        "let the route lead to its plain port, or to a side process that adds TLS",
         "../why.md#your-own-server"),
     Way("head/cut", "25", lambda c: c.link_problem == "cut", "the answer ends before its head does", "",
         "end the head with an empty line", HEAD, changes.mended_head),
