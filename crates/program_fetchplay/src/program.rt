@@ -53,12 +53,12 @@ const MOST_BASE: u64 = 1_099_511_627_776;
 /// documents is played, and the summary of the play is written. A status other than `Ok` is told by one
 /// line on the complaints; where that line cannot be written the answer is `WriteFault`.
 ///
-/// `Usage` exactly where the words are not accepted, and then nothing is read or written. `Refused`
-/// exactly where the input is no scenario, with the first refused place. `ReadFault` only where the
-/// input failed, `WriteFault` only where the output or the complaints failed or took nothing.
-/// `InputTooLong` exactly where byte 4,194,305 was read. `OutOfMemory` where memory was refused, or no
-/// link could be made. What a link does never changes the status. Links and clock are used with `net`
-/// alone; each link that was made is taken back.
+/// Where its line could be written: `Usage` exactly where the words are not accepted, and then nothing is read or
+/// written. `Refused` exactly where the whole input was read and is no scenario, with the first refused place, unless
+/// memory was refused before. `ReadFault` only where the input failed, `WriteFault` only where the output or the
+/// complaints failed or took nothing. `InputTooLong` exactly where byte 4,194,305 was read. `OutOfMemory` may come
+/// whenever the words are accepted. What a link does, once it is made, changes the status to no other. Links and clock
+/// are used with `net` alone; each link that was made is taken back.
 ///
 /// Where a play succeeded it is forgotten, not freed, and so is a scenario that was read: the program ends, and the
 /// system takes back all of their memory at once. A caller that goes on does not get it back.

@@ -13,7 +13,7 @@ use Rattle.program_shell.specs.declared.status.Status.TheVariants as status
 
 -- ---- excuses
 
--- the answers that any run may have besides: memory was refused, or the complaints or the output failed
+-- the answers that any run may have besides: OutOfMemory, or that the complaints or the output failed or took nothing
 abbrev pub IsExcused : {R : Type 0} → SinkTold → SinkTold → SinkTold → SinkTold → Status R → Type 0
 IsExcused output output' complaints complaints' answer =
     (answer ≡ status.OutOfMemory)
