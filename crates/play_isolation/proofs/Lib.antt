@@ -3,6 +3,7 @@ pub mod AnswerWordLemmas
 pub mod BlindLemmas
 pub mod ExchangeLemmas
 pub mod FetchWordLemmas
+pub mod FewLemmas
 pub mod HiddenLemmas
 pub mod HistoryLemmas
 pub mod HostWordLemmas

@@ -1,7 +1,7 @@
 -- Laws of documents' runs, over every tape and every history: a run depends on the replies of the shared book and on
 -- what the document may learn of the answers alone; and the replies on what was done under the document's key, and
 -- noted of known hosts, alone (this project's own definition).
-use Rattle.std.specs.Prelude.{◌≡◌, ◌≤◌, ◌^◌, ℕ, IsTrue, true, List, Some}
+use Rattle.std.specs.Prelude.{◌≡◌, ◌≤◌, ◌*◌, ◌^◌, ℕ, IsTrue, true, length, List, Some}
 use Rattle.play_text.specs.Plain.{IsPlainEvent, IsPlainTranscript}
 use Rattle.play_text.specs.Words.{has_words}
 use Rattle.play_isolation.specs.Words.{AllByRecursion, Answering, AreValid, Book, Cookie, Document, Entry, InRange}
@@ -37,6 +37,16 @@ CallsInRange =
     → base ≤ 2 ^ 40
     → AllByRecursion (λ (call : Made). InRange call.op)
     (calls_in (run_play (document_run cookies base document) tape).events)
+
+-- how many calls a document's run makes at most: 1,024 fetches make at most 126 each
+abbrev pub most_calls : ℕ
+most_calls = 129024
+
+-- a document's run makes at most so many
+abbrev pub CallsFew : Type 0
+CallsFew =
+    (cookies : List Cookie) (base : ℕ) (document : Document) (tape : List Input)
+    → length (calls_in (run_play (document_run cookies base document) tape).events) ≤ most_calls
 
 -- what a run of a document shows is plain where texts give its URLs: so each of its calls has words
 abbrev pub EventsPlain : Type 0
@@ -157,3 +167,11 @@ PlaysTold State =
     (transcripts : List Transcript) (history : List Entry) → base ≤ 2 ^ 40
     → AllByRecursion IsReady scenario.documents → IsPlayOver by scenario base olds news transcripts history
     → AreTold transcripts history
+
+-- a play has at most so many entries for each document
+abbrev pub PlaysFew : Type 0 → Type 0
+PlaysFew State =
+    (by : Answering State) (scenario : Scenario) (base : ℕ) (olds news : List (Way State))
+    (transcripts : List Transcript) (history : List Entry)
+    → IsPlayOver by scenario base olds news transcripts history
+    → length history ≤ length scenario.documents * most_calls
