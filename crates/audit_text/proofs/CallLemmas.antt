@@ -29,7 +29,8 @@ use Rattle.script_events.specs.Lines.{line}
 use Rattle.play_text.specs.Text.{entry_line}
 use Rattle.audit_text.specs.declared.calls.Call.{Call}
 use Rattle.audit_text.specs.declared.tail.Tail.{Tail}
-use Rattle.audit_text.specs.Entries.{has_words, is_method, is_word, IsEntry, IsLineOf, IsReading}
+use Rattle.play_text.specs.Words.{has_words, is_method, is_word}
+use Rattle.audit_text.specs.Entries.{IsEntry, IsLineOf, IsReading}
 use Rattle.audit_text.specs.Private.Reading.{call, call_in, clear_in, covers_in, credentials_in, entry_in, entry_of}
 use Rattle.audit_text.specs.Private.Reading.{learn_in}
 use Rattle.audit_text.specs.Private.Reading.{lesson_of, list_in, match_in, method_in, note_in, note_of}

@@ -4,5 +4,7 @@ pub mod LineLemmas
 pub mod ListLemmas
 pub mod OneLemmas
 pub mod OnceLemmas
+pub mod PlainLemmas
+pub mod PrintedLemmas
 pub mod ShortLemmas
 pub mod WordLemmas

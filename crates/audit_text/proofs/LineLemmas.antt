@@ -15,7 +15,8 @@ use Rattle.std.specs.List.{All, position, position_or_len, slice_get, take_while
 use Rattle.book_calls.specs.declared.entry.Entry.{Entry}
 use Rattle.script_events.specs.Lines.{line}
 use Rattle.audit_text.specs.Entries.{IsLineOf}
-use Rattle.audit_text.specs.Histories.{AreLinesOf, FailsAfter, HasFault, HasLines, IsLine, IsRead}
+use Rattle.play_text.specs.Plain.{IsLine}
+use Rattle.audit_text.specs.Histories.{AreLinesOf, FailsAfter, HasFault, HasLines, IsRead}
 use Rattle.audit_text.specs.Histories.{heading, lined}
 use Rattle.audit_text.specs.Private.Cuts.{AreLines, HasRead, HoldsLines, IsCut, IsDone, IsOther, IsReadLines}
 use Rattle.audit_text.specs.Private.Cuts.{LacksHeading, Passes}

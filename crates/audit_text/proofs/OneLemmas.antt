@@ -14,8 +14,10 @@ use Rattle.book_calls.specs.Ops.{InRange}
 use Rattle.play_text.specs.Laws.{HasOneHistory, IsListed, IsNamed, IsReadable, IsReadableOp}
 use Rattle.script_events.specs.Lines.{line}
 use Rattle.play_text.specs.Text.{history_text}
-use Rattle.audit_text.specs.Entries.{has_words, is_method, is_word, IsEntry}
-use Rattle.audit_text.specs.Histories.{AreLinesOf, HasLines, heading, IsLine, lined}
+use Rattle.play_text.specs.Words.{has_words, is_method, is_word}
+use Rattle.audit_text.specs.Entries.{IsEntry}
+use Rattle.play_text.specs.Plain.{IsLine}
+use Rattle.audit_text.specs.Histories.{AreLinesOf, HasLines, heading, lined}
 use Rattle.audit_text.specs.Laws.{HoldsOne}
 use Rattle.audit_text.proofs.CallLemmas.{five, three}
 use Rattle.audit_text.proofs.LineLemmas.{lined-then, one-line}

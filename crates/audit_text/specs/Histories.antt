@@ -1,19 +1,15 @@
 -- The history in the printed text of a play: its lines, and the entries that they tell (what `fetchplay play` writes).
-use Rattle.std.specs.Prelude.{◌≡◌, ◌≢◌, ℕ, zero, suc, ◌==◌, not, IsTrue, List, [], ◌∷◌, ◌++◌, take, codes, Some}
-use Rattle.std.specs.List.{All, flat_map, list_all, slice_get}
+use Rattle.std.specs.Prelude.{◌≡◌, ◌≢◌, ℕ, zero, suc, List, [], ◌∷◌, ◌++◌, take, codes, Some}
+use Rattle.std.specs.List.{All, flat_map, slice_get}
 use Rattle.value_text.specs.Texts.{Text}
-use Rattle.value_text.specs.Ascii.{line_feed}
 use Rattle.book_calls.specs.declared.entry.Entry.{Entry}
 use Rattle.script_events.specs.Lines.{line}
+use Rattle.play_text.specs.Plain.{IsLine}
 use Rattle.audit_text.specs.declared.history.Reading.{Reading}
 use Rattle.audit_text.specs.declared.history.Reading.TheVariants.{Entries, Fault}
 use Rattle.audit_text.specs.Entries.{IsLineOf}
 
 -- ---- lines
-
--- a text that a line can have before its LF: it has no LF
-abbrev pub IsLine : Text → Type 0
-IsLine text = IsTrue (list_all (λ byte. not (byte == line_feed)) text)
 
 -- lines, each with its LF
 abbrev pub lined : List Text → Text

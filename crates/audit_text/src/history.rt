@@ -2,7 +2,8 @@
 ghost use Rattle.std.specs.Prelude.{◌≡◌, ◌≢◌, ◌++◌, ℕ, List, IfOk, MatchBool, MatchOption};
 ghost use Rattle.value_text.specs.Texts.{Text};
 ghost use Rattle.script_events.specs.Lines.{line};
-ghost use Rattle.audit_text.specs.Histories.{IsLine, IsRead, heading};
+ghost use Rattle.play_text.specs.Plain.{IsLine};
+ghost use Rattle.audit_text.specs.Histories.{IsRead, heading};
 ghost use Rattle.audit_text.specs.Private.Cuts as spec;
 
 use crate::entry::read_entry;

@@ -1,5 +1,5 @@
-// The law of printed histories: a play's text holds one, and is read in one way.
-ghost use Rattle.audit_text.specs.Laws.{HoldsOne, ReadsOnce};
+// The laws of printed histories: a play's text holds one, and is read in one way.
+ghost use Rattle.audit_text.specs.Laws.{HoldsOne, PrintedHolds, ReadsOnce};
 
 use play_text::law_one_history;
 
@@ -11,3 +11,9 @@ pub fn law_one_reading()
 {
     law_one_history();
 }
+
+/// A law: the printed text of plain transcripts and of a history that lines may tell holds that history. The call does
+/// nothing.
+pub fn law_printed()
+    ensures { PrintedHolds }
+{}

@@ -13,4 +13,4 @@ mod words;
 pub use entry::read_entry;
 pub use frame::{MOST_SCENARIO, framed};
 pub use history::{Reading, read_history};
-pub use laws::law_one_reading;
+pub use laws::{law_one_reading, law_printed};

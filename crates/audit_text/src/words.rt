@@ -1,7 +1,7 @@
 // The words of a printed history's lines: visible ASCII, and what stands for credentials and subdomains.
 ghost use Rattle.std.specs.Prelude.{◌≡◌};
 ghost use Rattle.std.specs.List.{list_all};
-ghost use Rattle.audit_text.specs.Entries as spec;
+ghost use Rattle.play_text.specs.Words as spec;
 ghost use Rattle.audit_text.specs.Private.Reading as reading;
 
 // Whether each byte is printable ASCII other than a space.

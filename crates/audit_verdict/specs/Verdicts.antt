@@ -8,10 +8,9 @@ use Rattle.script_events.specs.declared.events.Transcript.{Transcript}
 use Rattle.play_text.specs.Text.{play_text}
 use Rattle.script_scenarios.specs.declared.document.Document.{Document}
 use Rattle.script_scenarios.specs.declared.scenario.Scenario.{Scenario}
-use Rattle.script_scenarios.specs.declared.servers.Server.{Server}
 use Rattle.script_reading.specs.Scenarios.{scenario_of}
 use Rattle.script_runs.specs.Documents.{EachDocument}
-use Rattle.play_definitions.specs.Plays.{IsTranscript, Way, by_rules, opening_book, way_to_servers, ways_to_servers}
+use Rattle.play_definitions.specs.Plays.{IsTranscript, by_rules, opening_book, way_to_servers, ways_to_servers}
 use Rattle.audit_replay.specs.Legality.{AreRight, IsIllegalAt, first_stranger}
 use Rattle.audit_replay.specs.Differences.{DifferAt}
 use Rattle.audit_text.specs.Histories.{HasFault, Holds}

@@ -7,5 +7,5 @@ mod runs;
 mod verdict;
 
 pub use cases::audit;
-pub use laws::{law_audited, law_one_verdict};
+pub use laws::{law_audited, law_one_verdict, law_own_history, law_own_play};
 pub use verdict::Verdict;

@@ -86,7 +86,7 @@ module _ {State : Type 0} (by : Answering State) (scenario : Scenario) (base : �
   run-is : run_play whole tape ≡ run_of transcript
   run-is = is.run_is.ran.runs
 
-  transcript-in : Legal (opening_book scenario) history → IsIn (opening_book scenario) history number whole tape
+  pub transcript-in : Legal (opening_book scenario) history → IsIn (opening_book scenario) history number whole tape
   unfolding run-is
   transcript-in legal =
       let ran = is.run_is.ran in

@@ -1,6 +1,7 @@
 pub mod Alone
 pub mod Apart
 pub mod Calls
+pub mod Given
 pub mod Hidden
 pub mod Isolated
 pub mod Laws

@@ -1,6 +1,8 @@
 pub mod Failures
 pub mod Laws
+pub mod Plain
 pub mod Private
 pub mod Summary
 pub mod Text
+pub mod Words
 pub mod Writes

@@ -7,7 +7,8 @@ use Rattle.script_events.specs.Lines.{line}
 use Rattle.audit_text.specs.declared.history.Reading.{Reading}
 use Rattle.audit_text.specs.declared.history.Reading.TheVariants.{Entries, Fault}
 use Rattle.audit_text.specs.Entries.{IsLineOf}
-use Rattle.audit_text.specs.Histories.{AreLinesOf, IsLine, heading, lined}
+use Rattle.play_text.specs.Plain.{IsLine}
+use Rattle.audit_text.specs.Histories.{AreLinesOf, heading, lined}
 
 -- A first line, and what follows it.
 pub record IsCut (text first rest : Text) : Type 0 where

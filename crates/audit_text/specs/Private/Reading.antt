@@ -15,7 +15,7 @@ use Rattle.book_preflights.specs.declared.question.Lesson.{Lesson}
 use Rattle.book_preflights.specs.declared.question.Question.{Question}
 use Rattle.audit_text.specs.declared.calls.Call.{Call}
 use Rattle.audit_text.specs.declared.tail.Tail.{Tail}
-use Rattle.audit_text.specs.Entries.{is_word}
+use Rattle.play_text.specs.Words.{is_word}
 
 -- ---- words
 
