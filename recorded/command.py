@@ -87,7 +87,8 @@ def check_together(parser: argparse.ArgumentParser, given: argparse.Namespace) -
         parser.error("--jobs and --out stand with --many")
     if given.many is not None and any((given.recording, given.json, given.brief, given.scenario, given.redact,
                                        given.suggest_csp, given.suggest_cors, given.suggest_hsts)):
-        parser.error("--many stands without RECORDING, --json, --brief, --scenario, --redact and the words that suggest")
+        parser.error("--many stands without RECORDING, --json, --brief, --scenario, --redact and the words that "
+                     "suggest")
     if given.no_csp and (given.csp is not None or given.csp_report_only is not None):
         parser.error("--no-csp stands without --csp and --csp-report-only")
     if given.suggest_csp and (given.redact or given.scenario or changes_of(given)):
@@ -99,20 +100,8 @@ def check_together(parser: argparse.ArgumentParser, given: argparse.Namespace) -
         parser.error("--redact stands without --scenario")
 
 
-def read_words(self: str, words: list[str]) -> argparse.Namespace:
-    """What the words say; wrong words end the program with the status 2."""
-    parser = argparse.ArgumentParser(
-        prog=self, allow_abbrev=False,
-        usage="%(prog)s RECORDING [changes] [--json|--brief] [--scenario DIR]\n"
-              "       %(prog)s RECORDING [changes] --suggest-cors ORIGIN|--suggest-hsts [--json|--brief]\n"
-              "       %(prog)s RECORDING --suggest-csp [--by host|path|scheme] [--json|--brief]\n"
-              "       %(prog)s RECORDING --redact OUT\n"
-              "       %(prog)s --many LIST|FOLDER [changes] [--jobs N] [--out FILE]",
-        description="says what came of each request of a recording (HAR), why, and what changes would change",
-        epilog="status: 0 nothing failed (with changes: nothing breaks), 1 something did, 2 wrong words or no HAR, "
-               "3 no play")
-    parser.add_argument("recording", metavar="RECORDING", nargs="?",
-                        help="a HAR file, plain or packed by gzip; standard input where it is left out")
+def add_changes(parser: argparse.ArgumentParser) -> None:
+    """The words of changes."""
     asked = parser.add_argument_group("what if", "the recording is played with these, and what comes otherwise is told")
     asked.add_argument("--csp", metavar="TEXT", type=policy,
                        help="the pages' policy, in the place of those that they have")
@@ -133,7 +122,10 @@ def read_words(self: str, words: list[str]) -> argparse.Namespace:
                        help="a site that moves to another origin")
     asked.add_argument("--changes", metavar="FILE", type=words_of_file, default=[],
                        help="a file of these words, one a line: a name without --, a blank, and its value")
-    add_suggestions(parser)
+
+
+def add_output(parser: argparse.ArgumentParser) -> None:
+    """The words for what is printed, and for the files that are written."""
     printed = parser.add_argument_group("what is printed and written")
     form = printed.add_mutually_exclusive_group()
     form.add_argument("--brief", action="store_true", help="a line for each verdict alone")
@@ -141,12 +133,40 @@ def read_words(self: str, words: list[str]) -> argparse.Namespace:
     printed.add_argument("--scenario", metavar="DIR", help="write a scenario for each page, for bin/why")
     printed.add_argument("--redact", metavar="OUT",
                          help="write the recording without cookies, Authorization and bodies, and play nothing")
+
+
+def add_many(parser: argparse.ArgumentParser) -> None:
+    """The words for many recordings."""
     many = parser.add_argument_group("many recordings", "a line of JSON for each, and what all of them come to")
     many.add_argument("--many", metavar="LIST|FOLDER",
                       help="a list of files, one a line (- for standard input); or a folder with *.har and *.har.gz; "
                            "or a file *.jsonl or *.jsonl.gz with a recording in each line")
     many.add_argument("--jobs", metavar="N", type=jobs, help="recordings side by side (1)")
     many.add_argument("--out", metavar="FILE", help="where the lines go; a run that was stopped goes on from there")
+
+
+def parser_of(self: str) -> argparse.ArgumentParser:
+    """All words, as --help explains them."""
+    parser = argparse.ArgumentParser(
+        prog=self, allow_abbrev=False,
+        usage="%(prog)s RECORDING [changes] [--json|--brief] [--scenario DIR]\n"
+              "       %(prog)s RECORDING [changes] --suggest-cors ORIGIN|--suggest-hsts [--json|--brief]\n"
+              "       %(prog)s RECORDING --suggest-csp [--by host|path|scheme] [--json|--brief]\n"
+              "       %(prog)s RECORDING --redact OUT\n"
+              "       %(prog)s --many LIST|FOLDER [changes] [--jobs N] [--out FILE]",
+        description="says what came of each request of a recording (HAR), why, and what changes would change",
+        epilog="status: 0 nothing failed (with changes: nothing breaks), 1 something did, 2 wrong words or no HAR, "
+               "3 no play")
+    parser.add_argument("recording", metavar="RECORDING", nargs="?",
+                        help="a HAR file, plain or packed by gzip; standard input where it is left out")
+    for add in (add_changes, add_suggestions, add_output, add_many):
+        add(parser)
+    return parser
+
+
+def read_words(self: str, words: list[str]) -> argparse.Namespace:
+    """What the words say; wrong words end the program with the status 2."""
+    parser = parser_of(self)
     given = parser.parse_args(words)
     if given.changes:
         given = parser.parse_args([*given.changes, *words])
