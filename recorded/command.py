@@ -139,8 +139,8 @@ def add_many(parser: argparse.ArgumentParser) -> None:
     """The words for many recordings."""
     many = parser.add_argument_group("many recordings", "a line of JSON for each, and what all of them come to")
     many.add_argument("--many", metavar="LIST|FOLDER",
-                      help="a list of files, one a line (- for standard input); or a folder with *.har and *.har.gz; "
-                           "or a file *.jsonl or *.jsonl.gz with a recording in each line")
+                      help="a list of files, one a line (- for standard input); or a folder with *.har, *.har.gz and "
+                           "*.flow; or a file *.jsonl or *.jsonl.gz with a recording in each line")
     many.add_argument("--jobs", metavar="N", type=jobs, help="recordings side by side (1)")
     many.add_argument("--out", metavar="FILE", help="where the lines go; a run that was stopped goes on from there")
 
@@ -158,7 +158,8 @@ def parser_of(self: str) -> argparse.ArgumentParser:
         epilog="status: 0 nothing failed (with changes: nothing breaks), 1 something did, 2 wrong words or no HAR, "
                "3 no play")
     parser.add_argument("recording", metavar="RECORDING", nargs="?",
-                        help="a HAR file, plain or packed by gzip; standard input where it is left out")
+                        help="a HAR file, or a flow file of mitmproxy, plain or packed by gzip; standard input where "
+                             "it is left out")
     for add in (add_changes, add_suggestions, add_output, add_many):
         add(parser)
     return parser
