@@ -85,19 +85,20 @@ def check_together(parser: argparse.ArgumentParser, given: argparse.Namespace) -
     """Ends the program where words do not stand together."""
     if given.many is None and (given.jobs or given.out):
         parser.error("--jobs and --out stand with --many")
-    if given.many is not None and any((given.recording, given.json, given.brief, given.scenario, given.redact,
-                                       given.suggest_csp, given.suggest_cors, given.suggest_hsts)):
-        parser.error("--many stands without RECORDING, --json, --brief, --scenario, --redact and the words that "
-                     "suggest")
+    if given.many is not None and any((given.recording, given.json, given.brief, given.scenario, given.html,
+                                       given.redact, given.suggest_csp, given.suggest_cors, given.suggest_hsts)):
+        parser.error("--many stands without RECORDING, --json, --brief, --scenario, --html, --redact and the words "
+                     "that suggest")
     if given.no_csp and (given.csp is not None or given.csp_report_only is not None):
         parser.error("--no-csp stands without --csp and --csp-report-only")
-    if given.suggest_csp and (given.redact or given.scenario or changes_of(given)):
-        parser.error("--suggest-csp stands without changes, --redact and --scenario")
-    for word, is_there in (("--suggest-cors", given.suggest_cors), ("--suggest-hsts", given.suggest_hsts)):
-        if is_there and (given.redact or given.scenario):
-            parser.error(f"{word} stands without --redact and --scenario")
-    if given.redact and given.scenario:
-        parser.error("--redact stands without --scenario")
+    if given.suggest_csp and changes_of(given):
+        parser.error("--suggest-csp stands without changes")
+    for word, is_there in (("--suggest-csp", given.suggest_csp), ("--suggest-cors", given.suggest_cors),
+                           ("--suggest-hsts", given.suggest_hsts)):
+        if is_there and (given.redact or given.scenario or given.html):
+            parser.error(f"{word} stands without --redact, --scenario and --html")
+    if given.redact and (given.scenario or given.html):
+        parser.error("--redact stands without --scenario and --html")
 
 
 def add_changes(parser: argparse.ArgumentParser) -> None:
@@ -131,6 +132,9 @@ def add_output(parser: argparse.ArgumentParser) -> None:
     form.add_argument("--brief", action="store_true", help="a line for each verdict alone")
     form.add_argument("--json", action="store_true", help="JSON")
     printed.add_argument("--scenario", metavar="DIR", help="write a scenario for each page, for bin/why")
+    printed.add_argument("--html", metavar="OUT",
+                         help="write a page to look at: the requests by host and time, why they were refused, and with "
+                              "changes what they come to")
     printed.add_argument("--redact", metavar="OUT",
                          help="write the recording without cookies, Authorization and bodies, and play nothing")
 
@@ -149,7 +153,7 @@ def parser_of(self: str) -> argparse.ArgumentParser:
     """All words, as --help explains them."""
     parser = argparse.ArgumentParser(
         prog=self, allow_abbrev=False,
-        usage="%(prog)s RECORDING [changes] [--json|--brief] [--scenario DIR]\n"
+        usage="%(prog)s RECORDING [changes] [--json|--brief] [--scenario DIR] [--html OUT]\n"
               "       %(prog)s RECORDING [changes] --suggest-cors ORIGIN|--suggest-hsts [--json|--brief]\n"
               "       %(prog)s RECORDING --suggest-csp [--by host|path|scheme] [--json|--brief]\n"
               "       %(prog)s RECORDING --redact OUT\n"
@@ -241,18 +245,27 @@ def write(found: dict[str, Any], lines: Iterable[str], given: argparse.Namespace
 
 
 def told(self: str, recording: Any, given: argparse.Namespace) -> int:
-    made, written = changes_of(given), []
-    if given.scenario:
-        written, wrong = writing.write(given.scenario, recording, made)
-        if wrong:
-            return streams.complain(WRONG, f"{self}: {wrong}")
     if given.suggest_csp:
         return suggested(recording, given)
     if given.suggest_cors is not None:
         return suggested_cors(self, recording, given)
     if given.suggest_hsts:
         return suggested_hsts(recording, given)
+    return judged(self, recording, changes_of(given), given)
+
+
+def judged(self: str, recording: Any, made: changes.Changes, given: argparse.Namespace) -> int:
+    """What came of all requests, and the files that are asked for."""
+    written, wrong = writing.write(given.scenario, recording, made) if given.scenario else ([], None)
+    if wrong:
+        return streams.complain(WRONG, f"{self}: {wrong}")
     found = judging.judge(recording, made)
+    if given.html:
+        from recorded import waterfall  # what it needs takes a play's time to read
+        wrong = waterfall.write(given.html, os.path.basename(given.recording or "standard input"), found, recording)
+        if wrong:
+            return streams.complain(WRONG, f"{self}: {wrong}")
+        written.append(given.html)
     if given.json:
         streams.write_json(found)
     else:

@@ -42,7 +42,7 @@ def read(data: Any, number: int) -> Entry:
         resource_type=fields.any_text(data, "_resourceType", "_request_type", "_resource_type").lower(),
         initiator=initiator_of(data), redirect=fields.any_text(response, "redirectURL"),
         has_cookies=bool(cookies) or any(name.lower() == "cookie" for name, _ in sent),
-        is_from_worker=response.get("_fetchedViaServiceWorker") is True)
+        is_from_worker=response.get("_fetchedViaServiceWorker") is True, took=took_of(data.get("time")))
 
 
 def is_without_host(url: str) -> bool:
@@ -119,6 +119,12 @@ def initiator_of(data: dict) -> str:
                 return fields.any_text(frame, "url")
         stack = stack.get("parent")
     return fields.any_text(told, "url")
+
+
+def took_of(milliseconds: Any) -> float:
+    """Seconds of a time in milliseconds; 0 of another value, such as the -1 of what is not known."""
+    is_number = isinstance(milliseconds, (int, float)) and not isinstance(milliseconds, bool)
+    return milliseconds / 1000 if is_number and 0 < milliseconds < 1e9 else 0
 
 
 def time_of(text: Any) -> Optional[float]:

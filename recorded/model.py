@@ -33,6 +33,7 @@ class Entry:
     redirect: str = ""
     has_cookies: bool = False
     is_from_worker: bool = False
+    took: float = 0  # seconds
 
     @cached_property
     def sent_values(self) -> dict[str, list[str]]:
