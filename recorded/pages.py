@@ -62,10 +62,10 @@ class Group:
     def is_document(self, chain: Chain, kind: str) -> bool:
         """Whether a chain is the page itself; where nothing says what it is, the first that is the page's URL or
         HTML."""
-        if not chain.last.origin:
+        if not chain.last.origin or kind != kinds.DOCUMENT and self.top is not None:
             return False
         is_html = (chain.last.answered("Content-Type") or "").lower().startswith("text/html")
-        is_first = self.top is None and chain.first.asked("Sec-Fetch-Dest") is None and not chain.first.resource_type
+        is_first = chain.first.asked("Sec-Fetch-Dest") is None and not chain.first.resource_type
         is_own = self.title.partition("#")[0] in [hop.bare_url for hop in chain.hops]
         return kind == kinds.DOCUMENT or (is_first and chain.first.method == "GET" and (is_own or is_html))
 
@@ -136,10 +136,12 @@ def add_known_hosts(pages: list[Page], entries: list[Entry]) -> None:
 
 def add_upgraded(page: Page) -> None:
     """The hosts that the browser took for known ones, which no answer before has made known."""
+    upgraded = [chain.is_known_host or is_upgraded_alone(chain.first, page) for chain in page.chains]
+    if not any(upgraded):
+        return
     book = Book()
-    for chain in page.chains:
-        host = host_of(chain.url)
-        is_upgraded = chain.is_known_host or is_upgraded_alone(chain.first, page)
+    for chain, is_upgraded in zip(page.chains, upgraded):
+        host = host_of(chain.url) if is_upgraded else ""
         if is_upgraded and is_domain(host) and not is_known(host, page.hsts + book.at(chain.first.started)):
             page.hsts.append({"host": host, "subdomains": False, "until": LATEST})
             page.notes.append(f"{host} is taken for a known host (HSTS): the browser made its URL https by itself")
@@ -149,8 +151,10 @@ def add_upgraded(page: Page) -> None:
 
 def is_upgraded_alone(entry: Entry, page: Page) -> bool:
     """Whether a page over http names an http URL, and https was asked, though no policy of the page says so."""
-    elements_of = page.html.elements.get(entry.bare_url, []) if page.html else []
-    if not page.url.startswith("http:") or not any(one.url.startswith("http:") for one in elements_of):
+    if not page.url.startswith("http:") or not page.html:
+        return False
+    elements_of = page.html.elements.get(entry.bare_url, [])
+    if not any(one.url.startswith("http:") for one in elements_of):
         return False
     policies = [page.entry.answered("Content-Security-Policy") or "", *page.html.policies]
     return entry.url.startswith("https:") and not any(UPGRADE in policy for policy in policies)

@@ -18,8 +18,9 @@ from recorded.changes import NONE, Changes
 from recorded.commands_of import Command
 from recorded.known_hosts import Book
 from recorded.model import Entry, Page
-from recorded.rules import PASSING, Rules, Supposed, is_read, rules_of
+from recorded.rules import PASSING, Rules, Supposed, read_of, rules_of
 
+QUOTED = json.encoder.encode_basestring_ascii
 DOCUMENT_HEADERS = (*csp.HEADERS, "referrer-policy")
 MOST_COMMANDS = 1000  # of a part
 MOST_TEXT = 3000000  # characters of a part
@@ -55,7 +56,7 @@ def parts_of(page: Page) -> list[Part]:
     parts: list[Part] = []
     book, size, begun = Book(), 0, page.entry.started if page.entry else None
     for command in commands_of.of_page(page):
-        own = len(json.dumps([command.data, command.body])) + sum(map(size_of, command.chain.entries))
+        own = length_of(command.data) + length_of(command.body) + sum(map(size_of, command.chain.entries))
         if not parts or len(parts[-1].commands) >= MOST_COMMANDS or size + own > MOST_TEXT:
             parts.append(Part(page, [], page.hsts + (book.at(begun) if parts else []), len(parts)))
             size = 0
@@ -68,8 +69,16 @@ def parts_of(page: Page) -> list[Part]:
 
 def size_of(entry: Entry) -> int:
     """How long an answer becomes in a scenario, or less."""
-    texts = [entry.url, *(value for name, value in entry.got if is_read(name.lower()))]
-    return 200 + sum(len(text) * (1 if text.isascii() else 6) for text in texts)
+    return 200 + length_of(entry.url) + sum(length_of(value) for _, value in read_of(entry))
+
+
+def length_of(value: Any) -> int:
+    """How long a value is as JSON, but for a few signs."""
+    if isinstance(value, str):
+        return len(QUOTED(value)) + 2
+    if isinstance(value, dict):
+        return sum(len(key) + 6 + length_of(own) for key, own in value.items())
+    return 2 + sum(map(length_of, value)) if isinstance(value, list) else 8
 
 
 # ---- layers
