@@ -11,7 +11,8 @@ from commands.ask_words import POLICIES, jobs, known_host
 from commands.scenario import origin_of
 from recorded.known_hosts import is_domain
 from recorded.least import BY
-from recorded import changes, differences, har, judging, redacting, telling, telling_suggested, writing
+from recorded import (changes, differences, har, judging, progress, redacting, telling, telling_suggested,
+                      writing)
 from recorded.cors_headers import NoPage
 
 GOOD, BAD, WRONG, FAILED = range(4)
@@ -195,20 +196,28 @@ def main(self: str, words: list[str]) -> int:
         return streams.complain(WRONG, f"{self}: {name} is a folder: name a HAR file in it")
     try:
         data = streams.read(given.recording)
+        progress.begin(self)
         return redact(self, data, given) if given.redact else told(self, har.read(data), given)
     except OSError as error:
-        return streams.complain(WRONG, f"{self}: {name}: {error.strerror}")
+        return complain(WRONG, f"{self}: {name}: {error.strerror}")
     except har.NoHar as error:
-        return streams.complain(WRONG, f"{self}: {name}:{error.line}:{error.column}: {error.sentence}")
+        return complain(WRONG, f"{self}: {name}:{error.line}:{error.column}: {error.sentence}")
     except (running.Failed, play_text.NoPlay) as error:
-        return streams.complain(FAILED, f"{self}: {error}")
+        return complain(FAILED, f"{self}: {error}")
+    finally:
+        progress.end()
+
+
+def complain(status: int, sentence: str) -> int:
+    progress.end()
+    return streams.complain(status, sentence)
 
 
 def redact(self: str, data: bytes, given: argparse.Namespace) -> int:
     log = har.log_of(data)
     wrong = redacting.write(given.redact, log)
     if wrong:
-        return streams.complain(WRONG, f"{self}: {wrong}")
+        return complain(WRONG, f"{self}: {wrong}")
     streams.write_lines([f"{given.redact} is the recording without cookies, Authorization and bodies",
                          *(f"note: {note}" for note in redacting.notes(log))])
     return GOOD
@@ -224,7 +233,7 @@ def suggested_cors(self: str, recording: Any, given: argparse.Namespace) -> int:
     try:
         found = judging.suggest_cors(recording, given.suggest_cors, changes_of(given))
     except NoPage as error:
-        return streams.complain(WRONG, f"{self}: --suggest-cors: {error}")
+        return complain(WRONG, f"{self}: --suggest-cors: {error}")
     own = found["suggested_cors"]
     write(found, telling_suggested.cors_lines(own, given.brief), given)
     return BAD if own["refused"] else GOOD
@@ -238,6 +247,7 @@ def suggested_hsts(recording: Any, given: argparse.Namespace) -> int:
 
 
 def write(found: dict[str, Any], lines: Iterable[str], given: argparse.Namespace) -> None:
+    progress.end()
     if given.json:
         streams.write_json(found)
     else:
@@ -258,14 +268,15 @@ def judged(self: str, recording: Any, made: changes.Changes, given: argparse.Nam
     """What came of all requests, and the files that are asked for."""
     written, wrong = writing.write(given.scenario, recording, made) if given.scenario else ([], None)
     if wrong:
-        return streams.complain(WRONG, f"{self}: {wrong}")
+        return complain(WRONG, f"{self}: {wrong}")
     found = judging.judge(recording, made)
     if given.html:
         from recorded import waterfall  # what it needs takes a play's time to read
         wrong = waterfall.write(given.html, os.path.basename(given.recording or "standard input"), found, recording)
         if wrong:
-            return streams.complain(WRONG, f"{self}: {wrong}")
+            return complain(WRONG, f"{self}: {wrong}")
         written.append(given.html)
+    progress.end()
     if given.json:
         streams.write_json(found)
     else:

@@ -13,6 +13,7 @@ from commands.case import Case
 from commands.explanations import Explanation, PolicyExplanation, explain, explain_policies
 from commands.notes import notes
 from commands.scenario import Scenario
+from recorded import progress
 from recorded.changes import NONE, Changes
 from recorded.model import Chain
 from recorded.rules import PASSING, Supposed, is_supposed
@@ -68,6 +69,7 @@ def played(part: Part, supposed: Supposed = PASSING, changes: Changes = NONE) ->
     found = Played(problems=left)
     for layer in layers:
         play_layer(layer, found)
+    progress.add_played(len(part.commands))
     for number, case in found.cases.items():
         case.recorded = part.commands[number].chain
     return found
