@@ -7,7 +7,7 @@ import ipaddress
 import json
 import re
 from dataclasses import dataclass, field
-from typing import Any, Iterator
+from typing import Any, Iterator, Optional
 from urllib.parse import urlsplit
 
 from commands import csp
@@ -29,6 +29,7 @@ MOST_POLICIES = 16
 MOST_WAIT = 4294967295
 MANY_ANSWERS = "its URL was answered in more ways than are played"
 TWO_ANSWERS = "its redirects come back to a URL that is answered otherwise then, which no scenario has"
+Answers = tuple[list[Rules], list[set[int]], dict[int, str]]
 
 
 @dataclass
@@ -39,6 +40,7 @@ class Part:
     commands: list[Command]
     hsts: list[dict[str, Any]]
     number: int = 0
+    answers: Optional[Answers] = None  # as they are recorded, once they are asked for
 
 
 @dataclass
@@ -86,6 +88,20 @@ def length_of(value: Any) -> int:
 def layers_of(part: Part, supposed: Supposed = PASSING,
               changes: Changes = NONE) -> tuple[list[Layer], dict[int, str]]:
     """The scenarios of a part, and of the commands that are in none why, by their numbers."""
+    if supposed.bare or changes:
+        found = answers_of(part, supposed, changes)
+    else:  # whose answers are the same, whatever else is supposed
+        part.answers = found = part.answers or answers_of(part, PASSING, NONE)
+    all_rules, owned, left = found
+    everything: Rules = {}
+    for rules in reversed(all_rules):
+        everything.update(rules)
+    return [Layer(scenario_of(part, {**everything, **rules}, supposed, changes), set(own))
+            for rules, own in zip(all_rules, owned)], dict(left)
+
+
+def answers_of(part: Part, supposed: Supposed, changes: Changes) -> Answers:
+    """The rules of each layer, the numbers of the commands that count in it, and why others count in none."""
     all_rules: list[Rules] = []
     owned: list[set[int]] = []
     left: dict[int, str] = {}
@@ -104,11 +120,7 @@ def layers_of(part: Part, supposed: Supposed = PASSING,
             owned.append(set())
         all_rules[place].update(own)
         owned[place].add(number)
-    everything: Rules = {}
-    for rules in reversed(all_rules):
-        everything.update(rules)
-    return [Layer(scenario_of(part, {**everything, **rules}, supposed, changes), own)
-            for rules, own in zip(all_rules, owned)], left
+    return all_rules, owned, left
 
 
 def fits(own: Rules, rules: Rules) -> bool:
