@@ -6,12 +6,14 @@ from collections import Counter
 from typing import Any
 
 from commands import whole_policies
+from commands.case import Case
 from recorded import (cors_headers, differences, doubts, finding_data, hsts_hosts, least, parts as parting, replaying,
                       verdicts)
 from recorded.changes import NONE, Changes
+from recorded.commands_of import Command
 from recorded.model import Page, Recording
 from recorded.plays import played
-from recorded.rules import Supposed
+from recorded.rules import Supposed, is_preflightable
 from recorded.scenarios import Part, parts_of
 from recorded.verdicts import ANEW, ANEW_OTHER, BARE, OTHER, Cases, Finding
 
@@ -78,6 +80,7 @@ def add_suppositions(part: Part, cases: list[Cases], tells_errors: bool) -> None
     failed = {number for number, command in commands if verdicts.failed_of(command.chain) is not None}
     is_open = {number for number, command in commands if command.asked.is_open}
     unsure = refused | failed if tells_errors else is_open
+    unsure -= {number for number in refused if is_bare(cases[number].plain, part.commands[number])}
     again = {number for number in failed
              if verdicts.lacks_preflight(cases[number].plain, part.commands[number].chain)}
     hidden = {number for number in failed - refused if part.commands[number].chain.last.is_hidden}
@@ -85,6 +88,12 @@ def add_suppositions(part: Part, cases: list[Cases], tells_errors: bool) -> None
     add(cases, part, ANEW, "anew", again)
     add(cases, part, ANEW_OTHER, "anew_other", again & is_open)
     add(cases, part, BARE, "bare", hidden)
+
+
+def is_bare(case: Case, command: Command) -> bool:
+    """Whether the only answer has no Access-Control-Allow-Origin: it is refused with credentials and without."""
+    is_alone = len(case.exchanges) == 1 and not is_preflightable(command, 0)
+    return is_alone and case.result.number == 12 and verdicts.way_of(case).startswith("cors/absent")
 
 
 def add(cases: list[Cases], part: Part, supposed: Supposed, name: str, wanted: set[int]) -> None:
