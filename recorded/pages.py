@@ -38,7 +38,7 @@ class Group:
         self.pages: list[Page] = []
         self.by_url: dict[str, Page] = {}
         self.top: Optional[Page] = None
-        self.frames: list[Page] = []  # of the page at the top
+        self.frames: dict[str, Page] = {}  # of the page at the top: the last one of each origin
 
     def take(self, chain: Chain) -> None:
         """Takes the next chain: a document of its own, or what one of the documents asked for."""
@@ -49,7 +49,7 @@ class Group:
         is_below = kind == kinds.DOCUMENT and self.top is not None and is_within(chain.first, self.top)
         is_frame = kind == kinds.FRAME or is_below
         if why is None and self.is_document(chain, kind) and not is_frame:
-            self.top, self.frames = self.add(document_of(chain)), []
+            self.top, self.frames = self.add(document_of(chain)), {}
             return
         page = page or self.unrecorded(chain.first)
         if why is None and kind in (*kinds.LOADS, kinds.FETCH):
@@ -57,7 +57,8 @@ class Group:
             return
         page.left_out.append((chain.first, why or unplayed.FRAME))
         if why is None and origin_of(chain.last.url):
-            self.frames.append(self.add(document_of(chain, page.top or page.url)))
+            frame = self.add(document_of(chain, page.top or page.url))
+            self.frames[frame.origin] = frame
 
     def is_document(self, chain: Chain, kind: str) -> bool:
         """Whether a chain is the page itself; where nothing says what it is, the first that is the page's URL or
@@ -94,7 +95,7 @@ class Group:
         is_own = entry.asked("Sec-Fetch-Site") == "same-origin"
         origin = entry.origin if is_own else origin_of(entry.asked("Origin") or "") or origin_of(referer)
         top = self.top or self.pages[-1]
-        return next((page for page in [top, *reversed(self.frames)] if page.origin == origin), top)
+        return top if origin is None or top.origin == origin else self.frames.get(origin, top)
 
 
 def is_within(entry: Entry, top: Page) -> bool:
@@ -130,8 +131,17 @@ def add_known_hosts(pages: list[Page], entries: list[Entry]) -> None:
                 break
             seen.add(entry.number)
             book.add(entry)
-        page.hsts = book.at(page.entry.started if page.entry else None)
+        page.hsts = book.at(page.entry.started if page.entry else None, lambda own=page: names_of(own))
         add_upgraded(page)
+
+
+def names_of(page: Page) -> set[str]:
+    """The hosts of all URLs of a page, and the names above them."""
+    hops = [hop for chain in page.chains for hop in chain.hops]
+    urls = [page.url, *(chain.url for chain in page.chains), *(page.html.elements if page.html else ())]
+    urls += [url for hop in hops for url in (hop.url, hop.answered("Location") or "")]
+    labels = [host_of(url).split(".") for url in urls]
+    return {".".join(own[place:]) for own in labels for place in range(len(own))}
 
 
 def add_upgraded(page: Page) -> None:
