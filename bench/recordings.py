@@ -12,7 +12,7 @@ sys.dont_write_bytecode = True
 from recorded import recordings
 
 HOSTS = 40
-BODY = "x" * 2500
+BODY = "x" * 3100
 POLICY = ("default-src 'self'; script-src 'self' 'nonce-abc' " + " ".join(
     f"https://host{number}.test" for number in range(HOSTS)) + "; img-src * data:; style-src * 'unsafe-inline'; "
     "connect-src *; font-src *; report-uri /reports")

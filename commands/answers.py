@@ -2,6 +2,7 @@
 (docs/rules/answers.md). Bytes are looked at once, in whatever pieces they come, so no server can make this dearer than
 what it sends is long."""
 import re
+from functools import cached_property
 
 STATUS_LINE = re.compile(rb"HTTP/1\.[01] (\d\d\d)(?: [^\r\n]*)?")
 LINE_END = re.compile(rb"\r?\n")
@@ -64,8 +65,22 @@ class Answer:
         self.server = server
         self.rule = rule
         self.link = link
-        self.problem, self.head = parsed(data)
+        self.known_beginning = None  # which many are never asked for
         self.known_body = None
+
+    @property
+    def beginning(self):
+        if self.known_beginning is None:
+            self.known_beginning = parsed(self.data)
+        return self.known_beginning
+
+    @property
+    def problem(self):
+        return self.beginning[0]
+
+    @property
+    def head(self):
+        return self.beginning[1]
 
     @property
     def is_scripted(self):
@@ -90,6 +105,22 @@ class Answer:
         """The number of Content-Length; None where there is none, or no such number."""
         found = LENGTH.fullmatch(self.head.get("Content-Length") or "")
         return int(found.group()) if found else None
+
+
+class Scripted(Answer):
+    """That of a scenario's server, whose bytes are made where they are asked for."""
+
+    link = None
+
+    def __init__(self, scenario, server, rule):
+        self.scenario = scenario
+        self.server = server
+        self.rule = rule
+        self.known_beginning = self.known_body = None
+
+    @cached_property
+    def data(self):
+        return bytes_of(self.scenario, self.server, self.rule)
 
 
 class Chunks:
@@ -170,7 +201,7 @@ def scripted(scenario, request):
     server = scenario.server_of(request.origin)
     index = None if server is None else scenario.rule_of(server, request)
     if (server, index) not in scenario.answers:
-        scenario.answers[server, index] = Answer(bytes_of(scenario, server, index), server, index)
+        scenario.answers[server, index] = Scripted(scenario, server, index)
     return scenario.answers[server, index]
 
 

@@ -44,6 +44,8 @@ def is_own(case, hop):
 
 def plain(case):
     """Why a URL stays http, where the explanation does not say it."""
+    if not any(case.plain_reasons):
+        return
     told = case.explanation.condition if case.explanation else ""
     for hop, reason in zip(case.hops, case.plain_reasons):
         if reason and reason not in told:

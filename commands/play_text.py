@@ -197,15 +197,19 @@ class Reader:
         event = Event("send", self.at, origin=line.partition(" ")[2], headers=[], body=None)
         event.method, target = REQUEST.fullmatch(self.line()).groups()
         event.target = plain(target)
-        while event.body is None:
-            found = self.take(SENT_BODY)
+        lines, at = self.lines, self.at
+        while at < len(lines) and lines[at].startswith("  "):
+            name, colon, value = lines[at][2:].partition(": ")
+            found = SENT_BODY.fullmatch(lines[at]) if name.startswith("body ") else None
             if found:
                 event.body = unescaped(found.group(2))
+                at += 1
                 break
-            found = self.take(HEADER)
-            if found is None:
+            if not name or not colon or ":" in name:  # it is no header
                 break
-            event.headers.append((found.group(1), plain(found.group(2))))
+            event.headers.append((name, plain(value)))
+            at += 1
+        self.at = at
         return event
 
     def result(self, line):

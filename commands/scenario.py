@@ -10,10 +10,15 @@ FETCH = {"method": "GET", "mode": "cors", "credentials": "same-origin", "redirec
          "integrity": ""}
 TEMPLATE = re.compile(r"\$\{(status|type|url|body|header:([^}]*))\}")
 DEFAULT_PORTS = {"http": 80, "https": 443}
+# The origin of a URL whose authority is a host in lower case alone, as most are.
+PLAIN = re.compile(r"https?://[a-z0-9-]+(?:\.[a-z0-9-]+)*(?=[/?#]|\Z)")
 
 
 def origin_of(url):
     """The serialised origin of an http or https URL, as far as a scenario's own URLs need it; None of another text."""
+    plain = PLAIN.match(url)
+    if plain:
+        return plain.group()
     try:
         parts = urlsplit(url.strip())
         host, port = parts.hostname, parts.port

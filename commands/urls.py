@@ -6,6 +6,8 @@ from urllib.parse import parse_qsl, urljoin, urlsplit
 
 # Words of a host or a path that a login has.
 LOGIN = re.compile(r"(?<![a-z])(?:log-?[io]n|sign-?in|auth(?:orize|enticate)?|sso|oauth|accounts?|sessions?)(?![a-z])")
+# A URL whose authority is a host in lower case alone, as most are.
+PLAIN = re.compile(r"[a-z]+://([a-z0-9-]+(?:\.[a-z0-9-]+)*)(?=[/?#]|\Z)")
 
 
 def scheme_of(url):
@@ -14,6 +16,9 @@ def scheme_of(url):
 
 def host_of(url):
     """The host of a URL; an empty text where there is none."""
+    plain = PLAIN.match(url)
+    if plain:
+        return plain.group(1)
     try:
         return urlsplit(url).hostname or ""
     except ValueError:

@@ -12,6 +12,8 @@ from recorded.model import Chain, Entry
 # Headers of a preflight that its request has, or that say what it is for.
 KEPT = ("origin", "referer", "user-agent", "access-control-request-private-network",
         "access-control-request-local-network")
+MOST_HOPS = 64  # of a chain: browsers follow 20 redirects
+MOST_WAITING = 100  # redirects to one URL that are looked at, of those that nothing has followed
 
 
 def chains_of(entries: list[Entry]) -> list[Chain]:
@@ -36,16 +38,16 @@ def owners_of(entries: list[Entry]) -> dict[int, Entry]:
     """The request that each preflight asks for, by the preflight's number: the nearest of its URL and method that has
     none yet. Firefox has it before the OPTIONS, since it began first, and others behind."""
     places: dict[tuple[str, str], list[int]] = {}
-    methods: dict[str, list[str]] = {}
+    methods: dict[str, dict[str, None]] = {}
     for place, entry in enumerate(entries):
         if not entry.is_preflight:
             places.setdefault((entry.bare_url, entry.method), []).append(place)
-            methods.setdefault(entry.bare_url, []).append(entry.method)
+            methods.setdefault(entry.bare_url, {})[entry.method] = None
     found: dict[int, Entry] = {}
     for place, entry in enumerate(entries):
         if entry.is_preflight:
             asked = entry.asked("Access-Control-Request-Method")
-            named = methods.get(entry.bare_url, []) if asked is None else [asked]
+            named = methods.get(entry.bare_url, ()) if asked is None else [asked]
             left = next(filter(None, (places.get((entry.bare_url, method)) for method in named)), [])
             if left:
                 found[entry.number] = entries[taken_nearest(left, place)]
@@ -90,7 +92,7 @@ def redirected(entries: list[Entry]) -> list[Chain]:
         else:
             chain = Chain([entry], url=entry.url)
             chains.append(chain)
-        target = target_of(entry)
+        target = target_of(entry) if len(chain.hops) < MOST_HOPS else None
         for url in {target, secure(target)} if target else ():
             waiting.setdefault(url, []).append((chain, len(chain.hops)))
     return chains
@@ -100,7 +102,7 @@ def taken(waiting: list[tuple[Chain, int]], entry: Entry) -> Optional[Chain]:
     """The last chain that waits for this entry; those that have gone on meanwhile are forgotten."""
     while waiting and len(waiting[-1][0].hops) != waiting[-1][1]:
         waiting.pop()
-    for place in range(len(waiting) - 1, -1, -1):
+    for place in range(len(waiting) - 1, max(-1, len(waiting) - 1 - MOST_WAITING), -1):
         chain, length = waiting[place]
         if len(chain.hops) == length and is_next(chain.last, entry):
             waiting.pop(place)

@@ -11,7 +11,8 @@ from commands.ask_words import POLICIES, jobs, known_host
 from commands.scenario import origin_of
 from recorded.known_hosts import is_domain
 from recorded.least import BY
-from recorded import changes, differences, har, judging, redacting, telling, telling_suggested, writing
+from recorded import (changes, differences, har, judging, progress, redacting, telling, telling_suggested,
+                      writing)
 from recorded.cors_headers import NoPage
 
 GOOD, BAD, WRONG, FAILED = range(4)
@@ -85,34 +86,24 @@ def check_together(parser: argparse.ArgumentParser, given: argparse.Namespace) -
     """Ends the program where words do not stand together."""
     if given.many is None and (given.jobs or given.out):
         parser.error("--jobs and --out stand with --many")
-    if given.many is not None and any((given.recording, given.json, given.brief, given.scenario, given.redact,
-                                       given.suggest_csp, given.suggest_cors, given.suggest_hsts)):
-        parser.error("--many stands without RECORDING, --json, --brief, --scenario, --redact and the words that suggest")
+    if given.many is not None and any((given.recording, given.json, given.brief, given.scenario, given.html,
+                                       given.redact, given.suggest_csp, given.suggest_cors, given.suggest_hsts)):
+        parser.error("--many stands without RECORDING, --json, --brief, --scenario, --html, --redact and the words "
+                     "that suggest")
     if given.no_csp and (given.csp is not None or given.csp_report_only is not None):
         parser.error("--no-csp stands without --csp and --csp-report-only")
-    if given.suggest_csp and (given.redact or given.scenario or changes_of(given)):
-        parser.error("--suggest-csp stands without changes, --redact and --scenario")
-    for word, is_there in (("--suggest-cors", given.suggest_cors), ("--suggest-hsts", given.suggest_hsts)):
-        if is_there and (given.redact or given.scenario):
-            parser.error(f"{word} stands without --redact and --scenario")
-    if given.redact and given.scenario:
-        parser.error("--redact stands without --scenario")
+    if given.suggest_csp and changes_of(given):
+        parser.error("--suggest-csp stands without changes")
+    for word, is_there in (("--suggest-csp", given.suggest_csp), ("--suggest-cors", given.suggest_cors),
+                           ("--suggest-hsts", given.suggest_hsts)):
+        if is_there and (given.redact or given.scenario or given.html):
+            parser.error(f"{word} stands without --redact, --scenario and --html")
+    if given.redact and (given.scenario or given.html):
+        parser.error("--redact stands without --scenario and --html")
 
 
-def read_words(self: str, words: list[str]) -> argparse.Namespace:
-    """What the words say; wrong words end the program with the status 2."""
-    parser = argparse.ArgumentParser(
-        prog=self, allow_abbrev=False,
-        usage="%(prog)s RECORDING [changes] [--json|--brief] [--scenario DIR]\n"
-              "       %(prog)s RECORDING [changes] --suggest-cors ORIGIN|--suggest-hsts [--json|--brief]\n"
-              "       %(prog)s RECORDING --suggest-csp [--by host|path|scheme] [--json|--brief]\n"
-              "       %(prog)s RECORDING --redact OUT\n"
-              "       %(prog)s --many LIST|FOLDER [changes] [--jobs N] [--out FILE]",
-        description="says what came of each request of a recording (HAR), why, and what changes would change",
-        epilog="status: 0 nothing failed (with changes: nothing breaks), 1 something did, 2 wrong words or no HAR, "
-               "3 no play")
-    parser.add_argument("recording", metavar="RECORDING", nargs="?",
-                        help="a HAR file, plain or packed by gzip; standard input where it is left out")
+def add_changes(parser: argparse.ArgumentParser) -> None:
+    """The words of changes."""
     asked = parser.add_argument_group("what if", "the recording is played with these, and what comes otherwise is told")
     asked.add_argument("--csp", metavar="TEXT", type=policy,
                        help="the pages' policy, in the place of those that they have")
@@ -133,20 +124,55 @@ def read_words(self: str, words: list[str]) -> argparse.Namespace:
                        help="a site that moves to another origin")
     asked.add_argument("--changes", metavar="FILE", type=words_of_file, default=[],
                        help="a file of these words, one a line: a name without --, a blank, and its value")
-    add_suggestions(parser)
+
+
+def add_output(parser: argparse.ArgumentParser) -> None:
+    """The words for what is printed, and for the files that are written."""
     printed = parser.add_argument_group("what is printed and written")
     form = printed.add_mutually_exclusive_group()
     form.add_argument("--brief", action="store_true", help="a line for each verdict alone")
     form.add_argument("--json", action="store_true", help="JSON")
     printed.add_argument("--scenario", metavar="DIR", help="write a scenario for each page, for bin/why")
+    printed.add_argument("--html", metavar="OUT",
+                         help="write a page to look at: the requests by host and time, why they were refused, and with "
+                              "changes what they come to")
     printed.add_argument("--redact", metavar="OUT",
                          help="write the recording without cookies, Authorization and bodies, and play nothing")
+
+
+def add_many(parser: argparse.ArgumentParser) -> None:
+    """The words for many recordings."""
     many = parser.add_argument_group("many recordings", "a line of JSON for each, and what all of them come to")
     many.add_argument("--many", metavar="LIST|FOLDER",
-                      help="a list of files, one a line (- for standard input); or a folder with *.har and *.har.gz; "
-                           "or a file *.jsonl or *.jsonl.gz with a recording in each line")
+                      help="a list of files, one a line (- for standard input); or a folder with *.har, *.har.gz and "
+                           "*.flow; or a file *.jsonl or *.jsonl.gz with a recording in each line")
     many.add_argument("--jobs", metavar="N", type=jobs, help="recordings side by side (1)")
     many.add_argument("--out", metavar="FILE", help="where the lines go; a run that was stopped goes on from there")
+
+
+def parser_of(self: str) -> argparse.ArgumentParser:
+    """All words, as --help explains them."""
+    parser = argparse.ArgumentParser(
+        prog=self, allow_abbrev=False,
+        usage="%(prog)s RECORDING [changes] [--json|--brief] [--scenario DIR] [--html OUT]\n"
+              "       %(prog)s RECORDING [changes] --suggest-cors ORIGIN|--suggest-hsts [--json|--brief]\n"
+              "       %(prog)s RECORDING --suggest-csp [--by host|path|scheme] [--json|--brief]\n"
+              "       %(prog)s RECORDING --redact OUT\n"
+              "       %(prog)s --many LIST|FOLDER [changes] [--jobs N] [--out FILE]",
+        description="says what came of each request of a recording (HAR), why, and what changes would change",
+        epilog="status: 0 nothing failed (with changes: nothing breaks), 1 something did, 2 wrong words or no HAR, "
+               "3 no play")
+    parser.add_argument("recording", metavar="RECORDING", nargs="?",
+                        help="a HAR file, or a flow file of mitmproxy, plain or packed by gzip; standard input where "
+                             "it is left out")
+    for add in (add_changes, add_suggestions, add_output, add_many):
+        add(parser)
+    return parser
+
+
+def read_words(self: str, words: list[str]) -> argparse.Namespace:
+    """What the words say; wrong words end the program with the status 2."""
+    parser = parser_of(self)
     given = parser.parse_args(words)
     if given.changes:
         given = parser.parse_args([*given.changes, *words])
@@ -170,20 +196,28 @@ def main(self: str, words: list[str]) -> int:
         return streams.complain(WRONG, f"{self}: {name} is a folder: name a HAR file in it")
     try:
         data = streams.read(given.recording)
+        progress.begin(self)
         return redact(self, data, given) if given.redact else told(self, har.read(data), given)
     except OSError as error:
-        return streams.complain(WRONG, f"{self}: {name}: {error.strerror}")
+        return complain(WRONG, f"{self}: {name}: {error.strerror}")
     except har.NoHar as error:
-        return streams.complain(WRONG, f"{self}: {name}:{error.line}:{error.column}: {error.sentence}")
+        return complain(WRONG, f"{self}: {name}:{error.line}:{error.column}: {error.sentence}")
     except (running.Failed, play_text.NoPlay) as error:
-        return streams.complain(FAILED, f"{self}: {error}")
+        return complain(FAILED, f"{self}: {error}")
+    finally:
+        progress.end()
+
+
+def complain(status: int, sentence: str) -> int:
+    progress.end()
+    return streams.complain(status, sentence)
 
 
 def redact(self: str, data: bytes, given: argparse.Namespace) -> int:
     log = har.log_of(data)
     wrong = redacting.write(given.redact, log)
     if wrong:
-        return streams.complain(WRONG, f"{self}: {wrong}")
+        return complain(WRONG, f"{self}: {wrong}")
     streams.write_lines([f"{given.redact} is the recording without cookies, Authorization and bodies",
                          *(f"note: {note}" for note in redacting.notes(log))])
     return GOOD
@@ -199,7 +233,7 @@ def suggested_cors(self: str, recording: Any, given: argparse.Namespace) -> int:
     try:
         found = judging.suggest_cors(recording, given.suggest_cors, changes_of(given))
     except NoPage as error:
-        return streams.complain(WRONG, f"{self}: --suggest-cors: {error}")
+        return complain(WRONG, f"{self}: --suggest-cors: {error}")
     own = found["suggested_cors"]
     write(found, telling_suggested.cors_lines(own, given.brief), given)
     return BAD if own["refused"] else GOOD
@@ -213,6 +247,7 @@ def suggested_hsts(recording: Any, given: argparse.Namespace) -> int:
 
 
 def write(found: dict[str, Any], lines: Iterable[str], given: argparse.Namespace) -> None:
+    progress.end()
     if given.json:
         streams.write_json(found)
     else:
@@ -220,18 +255,28 @@ def write(found: dict[str, Any], lines: Iterable[str], given: argparse.Namespace
 
 
 def told(self: str, recording: Any, given: argparse.Namespace) -> int:
-    made, written = changes_of(given), []
-    if given.scenario:
-        written, wrong = writing.write(given.scenario, recording, made)
-        if wrong:
-            return streams.complain(WRONG, f"{self}: {wrong}")
     if given.suggest_csp:
         return suggested(recording, given)
     if given.suggest_cors is not None:
         return suggested_cors(self, recording, given)
     if given.suggest_hsts:
         return suggested_hsts(recording, given)
+    return judged(self, recording, changes_of(given), given)
+
+
+def judged(self: str, recording: Any, made: changes.Changes, given: argparse.Namespace) -> int:
+    """What came of all requests, and the files that are asked for."""
+    written, wrong = writing.write(given.scenario, recording, made) if given.scenario else ([], None)
+    if wrong:
+        return complain(WRONG, f"{self}: {wrong}")
     found = judging.judge(recording, made)
+    if given.html:
+        from recorded import waterfall  # what it needs takes a play's time to read
+        wrong = waterfall.write(given.html, os.path.basename(given.recording or "standard input"), found, recording)
+        if wrong:
+            return complain(WRONG, f"{self}: {wrong}")
+        written.append(given.html)
+    progress.end()
     if given.json:
         streams.write_json(found)
     else:

@@ -15,7 +15,7 @@ from recorded.browser_rules import LETS_PASS, STOPS, rule_of
 from recorded.changes import Changes
 from recorded.difference import RESULT, Difference
 from recorded.model import Page
-from recorded.plays import Played, played
+from recorded.plays import played
 from recorded.rules import Supposed
 from recorded.scenarios import Part
 from recorded.verdicts import Finding
@@ -43,16 +43,22 @@ def of_page(number: int, page: Page, parts: list[tuple[Part, list[Finding]]], ch
     found, all_findings = [], []
     for part, own in parts:
         all_findings += own
-        after: dict[Supposed, Played] = {}
+        after = played_anew(part, own, changes)
         for index, finding in enumerate(own):
-            if finding.case is None:
-                continue
-            if finding.supposed not in after:
-                after[finding.supposed] = played(part, finding.supposed, changes)
-            case = after[finding.supposed].cases.get(index)
+            case = after.get(index)
             if case is not None:
                 found += [{"page": number, **one} for one in of_command(finding, case, page, browser)]
     return found + [{"page": number, **one} for one in gone_with(found, all_findings)]
+
+
+def played_anew(part: Part, findings: list[Finding], changes: Changes) -> dict[int, Case]:
+    """What the commands of a part come to with changes, by their numbers: each as its finding was played."""
+    numbers: dict[Supposed, set[int]] = {}
+    for number, finding in enumerate(findings):
+        if finding.case is not None:
+            numbers.setdefault(finding.supposed, set()).add(number)
+    return {number: case for supposed, wanted in numbers.items()
+            for number, case in played(part, supposed, changes, wanted).cases.items()}
 
 
 def of_command(finding: Finding, after: Case, page: Page, browser: str) -> Iterator[dict[str, Any]]:

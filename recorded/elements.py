@@ -4,7 +4,7 @@ from __future__ import annotations
 
 import re
 from html.parser import HTMLParser
-from typing import Optional
+from typing import Iterator, Optional
 
 from commands.scenario import joined
 from commands.urls import secure
@@ -14,7 +14,8 @@ from recorded.model import Element, Html
 PRELOADED = {"style": "style", "script": "script", "font": "font", "image": "image", "audio": "audio", "video": "video",
              "fetch": "fetch"}
 SCHEME = re.compile(r"\s*[A-Za-z][A-Za-z0-9+.-]*:")
-CANDIDATE = re.compile(r"\s*,*\s*(\S*[^\s,])(?:\s+[^,]*)?")
+BETWEEN = re.compile(r"[\s,]*")
+WRITTEN = re.compile(r"\S+")
 LONGEST = 16777216  # bytes of a page that is read
 CROSSORIGIN = {"use-credentials": "use-credentials"}
 
@@ -96,7 +97,7 @@ class Reader(HTMLParser):
         self.add_set(given)
 
     def add_set(self, given: dict[str, str]) -> None:
-        for text in CANDIDATE.findall(given.get("srcset", "")):
+        for text in candidates(given.get("srcset", "")):
             self.add("image", text, given)
 
     def read_input(self, given: dict[str, str]) -> None:
@@ -121,6 +122,17 @@ class Reader(HTMLParser):
             self.html.frames.add(joined(given["src"], self.base).partition("#")[0])
 
     read_frame = read_iframe
+
+
+def candidates(text: str) -> Iterator[str]:
+    """The URLs of a `srcset`, each with what describes it up to a comma."""
+    found = WRITTEN.match(text, BETWEEN.match(text).end())
+    while found:
+        url, end = found.group().rstrip(","), found.end()
+        if found.group() == url:
+            end = text.find(",", end)
+        yield url
+        found = WRITTEN.match(text, BETWEEN.match(text, end).end()) if end >= 0 else None
 
 
 def read(body: Optional[bytes], url: str) -> Optional[Html]:

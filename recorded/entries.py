@@ -3,7 +3,6 @@ there."""
 from __future__ import annotations
 
 import datetime
-import functools
 import re
 from typing import Any, Optional
 
@@ -17,6 +16,8 @@ SCHEME = re.compile(r"[A-Za-z][A-Za-z0-9+.-]*:")
 TOKEN = re.compile(r"[!#$%&'*+\-.^_`|~0-9A-Za-z]+")
 BREAKS = re.compile(r"[\r\n\x00]+")
 MOST_STATUS = 999
+MOST_KNOWN = 4096
+KNOWN: set[str] = set()  # names of headers that were seen, each a token
 
 
 def read(data: Any, number: int) -> Entry:
@@ -34,15 +35,16 @@ def read(data: Any, number: int) -> Entry:
         raise Bad(f"{place}.request.url is no whole URL: {url[:80]!r}")
     sent = headers_of(request, place + ".request")
     cookies = fields.list_of(request, "cookies", place + ".request")
-    return Entry(
+    entry = Entry(
         number=number, page=page_of(data, place), started=time_of(data.get("startedDateTime")), method=method, url=url,
         origin=origin, sent=sent, status=status_of(response, place + ".response"),
         got=headers_of(response, place + ".response"),
         content=fields.object_of(response, "content", place + ".response"), error=error_of(data, request, response),
         resource_type=fields.any_text(data, "_resourceType", "_request_type", "_resource_type").lower(),
         initiator=initiator_of(data), redirect=fields.any_text(response, "redirectURL"),
-        has_cookies=bool(cookies) or any(name.lower() == "cookie" for name, _ in sent),
-        is_from_worker=response.get("_fetchedViaServiceWorker") is True)
+        is_from_worker=response.get("_fetchedViaServiceWorker") is True, took=took_of(data.get("time")))
+    entry.has_cookies = bool(cookies) or "cookie" in entry.sent_values
+    return entry
 
 
 def is_without_host(url: str) -> bool:
@@ -61,32 +63,29 @@ def headers_of(data: dict, place: str) -> list[tuple[str, str]]:
     HTTP/2, as `:path`, are no headers."""
     found: list[tuple[str, str]] = []
     for index, one in enumerate(fields.list_of(data, "headers", place)):
-        name, value = pair_of(one) or wanted_pair(one, f"{place}.headers[{index}]")
-        if not is_token(name):
-            continue
-        if value.isprintable():  # as nearly all are
+        try:
+            name, value = one["name"], one["value"]
+            is_plain = name in KNOWN and value.isprintable()  # as nearly all are
+        except (TypeError, KeyError, AttributeError):
+            is_plain = False
+        if is_plain:
             found.append((name, value.strip(" ")))
         else:
-            found += [(name, line.strip("\t ")) for line in BREAKS.split(fields.clean(value))]
+            found += lines_of(one, f"{place}.headers[{index}]")
     return found
 
 
-def pair_of(data: Any) -> Optional[tuple[str, str]]:
-    """The name and the value; None of what has not the form."""
-    if isinstance(data, dict):
-        name, value = data.get("name"), data.get("value")
-        if isinstance(name, str) and isinstance(value, str):
-            return name, value
-    return None
-
-
-def wanted_pair(data: Any, place: str) -> tuple[str, str]:
-    """The same, which says what is wrong."""
+def lines_of(data: Any, place: str) -> list[tuple[str, str]]:
+    """The pairs of a header of which nothing is known; raises Bad where it is none."""
     fields.want(data, dict, place)
-    return fields.text_of(data, "name", place), fields.text_of(data, "value", place)
+    name, value = fields.text_of(data, "name", place), fields.text_of(data, "value", place)
+    if not is_token(name):
+        return []
+    if len(KNOWN) < MOST_KNOWN:
+        KNOWN.add(name)
+    return [(name, line.strip("\t ")) for line in BREAKS.split(value)]
 
 
-@functools.lru_cache(4096)
 def is_token(name: str) -> bool:
     return TOKEN.fullmatch(name) is not None
 
@@ -119,6 +118,12 @@ def initiator_of(data: dict) -> str:
                 return fields.any_text(frame, "url")
         stack = stack.get("parent")
     return fields.any_text(told, "url")
+
+
+def took_of(milliseconds: Any) -> float:
+    """Seconds of a time in milliseconds; 0 of another value, such as the -1 of what is not known."""
+    is_number = isinstance(milliseconds, (int, float)) and not isinstance(milliseconds, bool)
+    return milliseconds / 1000 if is_number and 0 < milliseconds < 1e9 else 0
 
 
 def time_of(text: Any) -> Optional[float]:

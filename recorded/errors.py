@@ -5,14 +5,15 @@ import re
 from typing import Optional
 
 NETWORK = [
-    (r"NAME_NOT_RESOLVED|NAME_RESOLUTION|UNKNOWN_HOST", "the name of the host was not found"),
-    (r"CERT|SSL|TLS|SEC_ERROR|BAD_CERT", "TLS failed, or the certificate is not trusted"),
+    (r"NAME_NOT_RESOLVED|NAME_RESOLUTION|UNKNOWN_HOST|Name or service not known", "the name of the host was not found"),
+    (r"CERT|SSL|TLS|SEC_ERROR|BAD_CERT|Certificate", "TLS failed, or the certificate is not trusted"),
     (r"CONNECTION|SOCKET|ADDRESS|NET_RESET|NET_INTERRUPT|NET_TIMEOUT|TIMED_OUT|INTERNET_DISCONNECTED|NETWORK_|OFFLINE|"
      r"PROXY|TUNNEL|EMPTY_RESPONSE|NET_PARTIAL|QUIC|HTTP2|HTTP_1_1", "the connection failed"),
     (r"INVALID_HTTP|INVALID_RESPONSE|CHUNKED|CONTENT_LENGTH|CONTENT_DECODING|RESPONSE_HEADERS",
      "the bytes of the answer were faulty"),
+    (r"^mitmproxy: (?!.*client)", "the proxy got no answer"),
 ]
-ABORTED = re.compile(r"ERR_ABORTED|BINDING_ABORTED|^cancel", re.I)
+ABORTED = re.compile(r"ERR_ABORTED|BINDING_ABORTED|^cancel|^mitmproxy: .*client", re.I)
 EMBEDDER = re.compile(r"COEP|DefaultedToSameOrigin", re.I)
 OUTSIDE = re.compile(r"BLOCKED_BY_CLIENT|BLOCKED_BY_ADMINISTRATOR|BLOCKED_BY_FINGERPRINT|TRACKING_URI|MALWARE|PHISHING")
 ORB = re.compile(r"BLOCKED_BY_ORB")

@@ -45,7 +45,11 @@ def text_of(data: dict, key: str, place: str) -> str:
 
 def any_text(data: dict, *keys: str) -> str:
     """The first text of some keys that tools write in different ways, or an empty one."""
-    return next((clean(data[key]) for key in keys if isinstance(data.get(key), str) and data[key]), "")
+    for key in keys:
+        value = data.get(key)
+        if value and isinstance(value, str):
+            return clean(value)
+    return ""
 
 
 def clean(text: str) -> str:

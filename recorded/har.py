@@ -1,5 +1,5 @@
-"""Reads a recording: the bytes of a HAR 1.2, plain or packed by gzip. What is no HAR, or is cut, is refused with its
-place."""
+"""Reads a recording: the bytes of a HAR 1.2, or of a flow file of mitmproxy, plain or packed by gzip. What is none, or
+is cut, is refused with its place."""
 from __future__ import annotations
 
 import json
@@ -7,7 +7,7 @@ import zlib
 from typing import Any
 
 from commands import json_text
-from recorded import entries, fields, pages
+from recorded import entries, fields, flows, pages
 from recorded.model import Entry, Recording
 
 GZIP = b"\x1f\x8b"
@@ -15,6 +15,8 @@ BOM = b"\xef\xbb\xbf"
 LARGEST = 1 << 30  # bytes, unpacked
 SMALL = 1 << 22  # characters: of a longer text the reader of Python's own says what is wrong
 EXPECTED = 'a recording is an object with `log`, which has `entries`: {"log": {"entries": [..]}}'
+PROXY = ("a proxy made the recording: what the browser stopped itself, by a policy or as mixed content, is not in it, "
+         "nor what came from its cache")
 CUT = "the recording is cut: it ends in the middle; export it again"
 
 
@@ -34,14 +36,25 @@ def read(data: bytes) -> Recording:
     found, bad = entries_of(log["entries"])
     creator = creator_of(log)
     recording = Recording(browser=browser_of(creator, found), creator=creator, tells_errors=tells_errors(creator),
-                          count=len(log["entries"]), entries=found, bad=bad)
+                          count=len(log["entries"]), entries=found, bad=bad,
+                          notes=[PROXY] if creator.startswith("mitmproxy") else [])
     pages.add(recording, titles_of(log), found)
     return recording
 
 
 def log_of(data: bytes) -> dict[str, Any]:
     """The `log` of a recording's bytes."""
-    text = text_of(unpacked(data))
+    data = unpacked(data)
+    if flows.is_flows(data):
+        try:
+            return flows.log_of(data)
+        except flows.NoFlows as error:
+            raise NoHar(1, 1, str(error)) from None
+    return log_of_har(text_of(data))
+
+
+def log_of_har(text: str) -> dict[str, Any]:
+    """The same of a HAR's text."""
     root = tree_of(text)
     if not isinstance(root, dict):
         raise no_har(text, first_sign(text), f"this is {fields.told(root)}: {EXPECTED}")
@@ -129,6 +142,8 @@ def entries_of(values: list) -> tuple[list[Entry], list[tuple[int, str]]]:
     found, bad = [], []
     for number, value in enumerate(values):
         try:
+            if isinstance(value, fields.Bad):
+                raise value
             found.append(entries.read(value, number))
         except fields.Bad as error:
             bad.append((number, str(error)))

@@ -6,11 +6,14 @@ from collections import Counter
 from typing import Any
 
 from commands import whole_policies
+from commands.case import Case
 from recorded import (cors_headers, differences, doubts, finding_data, hsts_hosts, least, parts as parting, replaying,
                       verdicts)
 from recorded.changes import NONE, Changes
+from recorded.commands_of import Command
 from recorded.model import Page, Recording
-from recorded.plays import Played, played
+from recorded.plays import played
+from recorded.rules import Supposed, is_preflightable
 from recorded.scenarios import Part, parts_of
 from recorded.verdicts import ANEW, ANEW_OTHER, BARE, OTHER, Cases, Finding
 
@@ -72,26 +75,33 @@ def findings_of(part: Part, recording: Recording) -> list[Finding]:
 def add_suppositions(part: Part, cases: list[Cases], tells_errors: bool) -> None:
     """Plays once more what may have been otherwise: with credentials, where nothing says that it passed without; and
     with a bare answer in the place of a hidden one."""
-    played_ones = [(command, own) for command, own in zip(part.commands, cases) if own.plain is not None]
-    wrong = [(command, verdicts.is_refused(own.plain, command)) for command, own in played_ones
-             if verdicts.failed_of(command.chain) or verdicts.is_refused(own.plain, command)]
-    unsure = wrong if tells_errors else played_ones
-    if any(command.asked.is_open for command, _ in unsure):
-        add(cases, played(part, OTHER), "other", [command.asked.is_open for command in part.commands])
-    again = [verdicts.failed_of(command.chain) is not None and own.plain is not None
-             and verdicts.lacks_preflight(own.plain, command.chain) for command, own in zip(part.commands, cases)]
-    if any(again):
-        add(cases, played(part, ANEW), "anew", again)
-        is_open = [is_again and command.asked.is_open for is_again, command in zip(again, part.commands)]
-        add(cases, played(part, ANEW_OTHER), "anew_other", is_open)
-    if any(command.chain.last.is_hidden and not is_refused for command, is_refused in wrong):
-        add(cases, played(part, BARE), "bare", [command.chain.last.is_hidden for command in part.commands])
+    commands = [(number, command) for number, command in enumerate(part.commands) if cases[number].plain is not None]
+    refused = {number for number, command in commands if verdicts.is_refused(cases[number].plain, command)}
+    failed = {number for number, command in commands if verdicts.failed_of(command.chain) is not None}
+    is_open = {number for number, command in commands if command.asked.is_open}
+    unsure = refused | failed if tells_errors else is_open
+    unsure -= {number for number in refused if is_bare(cases[number].plain, part.commands[number])}
+    again = {number for number in failed
+             if verdicts.lacks_preflight(cases[number].plain, part.commands[number].chain)}
+    hidden = {number for number in failed - refused if part.commands[number].chain.last.is_hidden}
+    add(cases, part, OTHER, "other", is_open & unsure)
+    add(cases, part, ANEW, "anew", again)
+    add(cases, part, ANEW_OTHER, "anew_other", again & is_open)
+    add(cases, part, BARE, "bare", hidden)
 
 
-def add(cases: list[Cases], found: Played, name: str, counts: list[bool]) -> None:
-    for number, own in enumerate(cases):
-        if counts[number]:
-            setattr(own, name, found.cases.get(number))
+def is_bare(case: Case, command: Command) -> bool:
+    """Whether the only answer has no Access-Control-Allow-Origin: it is refused with credentials and without."""
+    is_alone = len(case.exchanges) == 1 and not is_preflightable(command, 0)
+    return is_alone and case.result.number == 12 and verdicts.way_of(case).startswith("cors/absent")
+
+
+def add(cases: list[Cases], part: Part, supposed: Supposed, name: str, wanted: set[int]) -> None:
+    """Plays a part once more, where there are such commands."""
+    if wanted:
+        found = played(part, supposed, wanted=wanted)
+        for number in wanted:
+            setattr(cases[number], name, found.cases.get(number))
 
 
 # ---- a page

@@ -4,7 +4,7 @@ from __future__ import annotations
 import functools
 import re
 from collections import namedtuple
-from typing import Any, Optional
+from typing import Any, Callable, Optional
 
 from commands.lints import hsts_values
 from commands.urls import host_of, is_address
@@ -15,6 +15,7 @@ DOMAIN = re.compile(r"[a-z0-9_-]+(?:\.[a-z0-9_-]+)*\.?")
 LATEST = 2 ** 48 - 1
 LONGEST = 2 ** 32 - 1  # seconds of a max-age that count
 HEADER = "strict-transport-security"
+MANY = 200  # hosts, of which a page's own are looked for
 
 
 def noted(entry: Entry) -> Optional[Known]:
@@ -46,9 +47,13 @@ class Book:
         if known:
             self.hosts[known.host] = known
 
-    def at(self, time: Optional[float]) -> list[dict[str, Any]]:
-        """Those that are known at a time, as a scenario has them, whose clock begins at 0."""
-        left = [(known, int(known.until - (time or 0))) for known in self.hosts.values()]
+    def at(self, time: Optional[float], names: Optional[Callable[[], set[str]]] = None) -> list[dict[str, Any]]:
+        """Those that are known at a time, as a scenario has them, whose clock begins at 0. Of many hosts those that are
+        among some names."""
+        own = self.hosts.values()
+        if names is not None and len(self.hosts) > MANY:
+            own = [self.hosts[name] for name in sorted(names()) if name in self.hosts]
+        left = [(known, int(known.until - (time or 0))) for known in own]
         return [{"host": known.host, "subdomains": known.subdomains, "until": min(until, LATEST)}
                 for known, until in left if until > 0 and is_domain(known.host)]
 

@@ -10,7 +10,7 @@ from typing import Any, Iterator, Optional
 from commands import streams
 from recorded import har
 
-ENDINGS = (".har", ".har.gz")
+ENDINGS = (".har", ".har.gz", ".flow")
 LINES = (".jsonl", ".jsonl.gz")
 CUT = "the gzip file is cut: copy it again"
 BROKEN = "the gzip file is broken here: copy it again"
@@ -55,7 +55,7 @@ def all_of(path: str) -> Iterator[Listed]:
     if os.path.isdir(path):
         names = sorted(name for name in os.listdir(path) if name.endswith(ENDINGS))
         paths = [os.path.join(path, name) for name in names]
-        wrong = "has no file whose name ends with .har or .har.gz"
+        wrong = "has no file whose name ends with .har, .har.gz or .flow"
     elif path.endswith(ENDINGS):
         raise NoList("is the name of a recording, and a list or a folder belongs there: leave --many out")
     else:

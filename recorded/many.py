@@ -12,6 +12,7 @@ from commands import running, streams
 from recorded import kept, lines, listed, workers
 from recorded.changes import Changes
 from recorded.listed import Listed
+from recorded.progress import Progress
 from recorded.summary import Summary
 
 EMPTY = b'{"format":1,"documents":[]}'
@@ -45,15 +46,19 @@ def mapped(things: Iterator[Listed], jobs: int, changes: Changes) -> Iterator[by
 
 
 def written(self: str, made: Iterator[bytes], file: Optional[BinaryIO], summary: Summary) -> int:
+    shown = Progress(self, sys.stderr if file or not sys.stdout.isatty() else None)
     with closing(made):
         try:
             for line in made:
                 write(file, line)
                 summary.add(json.loads(line))
+                shown.say(f"{summary.count:,} recordings judged")
         except BrokenPipeError:
             raise
         except OSError as error:
+            shown.end()
             return streams.complain(lines.FAILED, f"{self}: it ended: {error.strerror}")
+    shown.end()
     tell(summary, sys.stdout if file else sys.stderr)
     return summary.status
 

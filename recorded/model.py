@@ -6,7 +6,6 @@ import base64
 import binascii
 from collections import Counter
 from dataclasses import dataclass, field
-from functools import cached_property
 from typing import Any, Optional
 
 from commands.scenario import origin_of
@@ -33,14 +32,12 @@ class Entry:
     redirect: str = ""
     has_cookies: bool = False
     is_from_worker: bool = False
+    took: float = 0  # seconds
+    read: Optional[list[tuple[str, str]]] = None  # the headers of `got` that rules look at, once they are asked for
 
-    @cached_property
-    def sent_values(self) -> dict[str, list[str]]:
-        return values_by_name(self.sent)
-
-    @cached_property
-    def got_values(self) -> dict[str, list[str]]:
-        return values_by_name(self.got)
+    def __post_init__(self) -> None:
+        self.sent_values = values_by_name(self.sent)
+        self.got_values = values_by_name(self.got)
 
     def asked(self, name: str) -> Optional[str]:
         """The value of a request's header; None where there is none."""
@@ -212,5 +209,9 @@ def values_by_name(headers: list[tuple[str, str]]) -> dict[str, list[str]]:
     """The values of each name, in lower case."""
     found: dict[str, list[str]] = {}
     for name, value in headers:
-        found.setdefault(name.lower(), []).append(value)
+        name = name.lower()
+        if name in found:
+            found[name].append(value)
+        else:
+            found[name] = [value]
     return found

@@ -38,7 +38,7 @@ class Group:
         self.pages: list[Page] = []
         self.by_url: dict[str, Page] = {}
         self.top: Optional[Page] = None
-        self.frames: list[Page] = []  # of the page at the top
+        self.frames: dict[str, Page] = {}  # of the page at the top: the last one of each origin
 
     def take(self, chain: Chain) -> None:
         """Takes the next chain: a document of its own, or what one of the documents asked for."""
@@ -49,7 +49,7 @@ class Group:
         is_below = kind == kinds.DOCUMENT and self.top is not None and is_within(chain.first, self.top)
         is_frame = kind == kinds.FRAME or is_below
         if why is None and self.is_document(chain, kind) and not is_frame:
-            self.top, self.frames = self.add(document_of(chain)), []
+            self.top, self.frames = self.add(document_of(chain)), {}
             return
         page = page or self.unrecorded(chain.first)
         if why is None and kind in (*kinds.LOADS, kinds.FETCH):
@@ -57,15 +57,16 @@ class Group:
             return
         page.left_out.append((chain.first, why or unplayed.FRAME))
         if why is None and origin_of(chain.last.url):
-            self.frames.append(self.add(document_of(chain, page.top or page.url)))
+            frame = self.add(document_of(chain, page.top or page.url))
+            self.frames[frame.origin] = frame
 
     def is_document(self, chain: Chain, kind: str) -> bool:
         """Whether a chain is the page itself; where nothing says what it is, the first that is the page's URL or
         HTML."""
-        if not chain.last.origin:
+        if not chain.last.origin or kind != kinds.DOCUMENT and self.top is not None:
             return False
         is_html = (chain.last.answered("Content-Type") or "").lower().startswith("text/html")
-        is_first = self.top is None and chain.first.asked("Sec-Fetch-Dest") is None and not chain.first.resource_type
+        is_first = chain.first.asked("Sec-Fetch-Dest") is None and not chain.first.resource_type
         is_own = self.title.partition("#")[0] in [hop.bare_url for hop in chain.hops]
         return kind == kinds.DOCUMENT or (is_first and chain.first.method == "GET" and (is_own or is_html))
 
@@ -94,7 +95,7 @@ class Group:
         is_own = entry.asked("Sec-Fetch-Site") == "same-origin"
         origin = entry.origin if is_own else origin_of(entry.asked("Origin") or "") or origin_of(referer)
         top = self.top or self.pages[-1]
-        return next((page for page in [top, *reversed(self.frames)] if page.origin == origin), top)
+        return top if origin is None or top.origin == origin else self.frames.get(origin, top)
 
 
 def is_within(entry: Entry, top: Page) -> bool:
@@ -130,16 +131,27 @@ def add_known_hosts(pages: list[Page], entries: list[Entry]) -> None:
                 break
             seen.add(entry.number)
             book.add(entry)
-        page.hsts = book.at(page.entry.started if page.entry else None)
+        page.hsts = book.at(page.entry.started if page.entry else None, lambda own=page: names_of(own))
         add_upgraded(page)
+
+
+def names_of(page: Page) -> set[str]:
+    """The hosts of all URLs of a page, and the names above them."""
+    hops = [hop for chain in page.chains for hop in chain.hops]
+    urls = [page.url, *(chain.url for chain in page.chains), *(page.html.elements if page.html else ())]
+    urls += [url for hop in hops for url in (hop.url, hop.answered("Location") or "")]
+    labels = [host_of(url).split(".") for url in urls]
+    return {".".join(own[place:]) for own in labels for place in range(len(own))}
 
 
 def add_upgraded(page: Page) -> None:
     """The hosts that the browser took for known ones, which no answer before has made known."""
+    upgraded = [chain.is_known_host or is_upgraded_alone(chain.first, page) for chain in page.chains]
+    if not any(upgraded):
+        return
     book = Book()
-    for chain in page.chains:
-        host = host_of(chain.url)
-        is_upgraded = chain.is_known_host or is_upgraded_alone(chain.first, page)
+    for chain, is_upgraded in zip(page.chains, upgraded):
+        host = host_of(chain.url) if is_upgraded else ""
         if is_upgraded and is_domain(host) and not is_known(host, page.hsts + book.at(chain.first.started)):
             page.hsts.append({"host": host, "subdomains": False, "until": LATEST})
             page.notes.append(f"{host} is taken for a known host (HSTS): the browser made its URL https by itself")
@@ -149,8 +161,10 @@ def add_upgraded(page: Page) -> None:
 
 def is_upgraded_alone(entry: Entry, page: Page) -> bool:
     """Whether a page over http names an http URL, and https was asked, though no policy of the page says so."""
-    elements_of = page.html.elements.get(entry.bare_url, []) if page.html else []
-    if not page.url.startswith("http:") or not any(one.url.startswith("http:") for one in elements_of):
+    if not page.url.startswith("http:") or not page.html:
+        return False
+    elements_of = page.html.elements.get(entry.bare_url, [])
+    if not any(one.url.startswith("http:") for one in elements_of):
         return False
     policies = [page.entry.answered("Content-Security-Policy") or "", *page.html.policies]
     return entry.url.startswith("https:") and not any(UPGRADE in policy for policy in policies)

@@ -13,6 +13,7 @@ from commands.case import Case
 from commands.explanations import Explanation, PolicyExplanation, explain, explain_policies
 from commands.notes import notes
 from commands.scenario import Scenario
+from recorded import progress
 from recorded.changes import NONE, Changes
 from recorded.model import Chain
 from recorded.rules import PASSING, Supposed, is_supposed
@@ -63,23 +64,26 @@ class Played:
     problems: dict[int, str] = field(default_factory=dict)
 
 
-def played(part: Part, supposed: Supposed = PASSING, changes: Changes = NONE) -> Played:
+def played(part: Part, supposed: Supposed = PASSING, changes: Changes = NONE,
+           wanted: Optional[set[int]] = None) -> Played:
+    """What the commands of a part come to; of these numbers alone, where they are given."""
     layers, left = layers_of(part, supposed, changes)
     found = Played(problems=left)
     for layer in layers:
-        play_layer(layer, found)
+        play_layer(layer, found, layer.own if wanted is None else layer.own & wanted)
+    progress.add_played(len(part.commands))
     for number, case in found.cases.items():
         case.recorded = part.commands[number].chain
     return found
 
 
-def play_layer(layer: Layer, found: Played) -> None:
+def play_layer(layer: Layer, found: Played, wanted: set[int]) -> None:
     """Plays a scenario, without what is refused in it."""
     data = layer.data
     numbers = list(range(sum("wait" not in one for one in data["documents"][0]["script"])))
     for _ in range(MOST_TRIES):
         try:
-            cases = cases_of(data)
+            cases = cases_of(data, {place for place, number in enumerate(numbers) if number in wanted})
         except running.Refused as refused:
             number = without(data, refused.place, numbers)
             if number is None:
@@ -88,24 +92,27 @@ def play_layer(layer: Layer, found: Played) -> None:
             if number >= 0:
                 found.problems.setdefault(number, NO_SCENARIO % refused.place)
             continue
-        found.cases.update({number: case for number, case in zip(numbers, cases) if number in layer.own})
+        found.cases.update({number: case for number, case in zip(numbers, cases) if number in wanted})
         problem = TOO_LONG
         break
     else:
         problem = NO_PAGE
-    for number in layer.own - set(found.cases):
+    for number in wanted - set(found.cases):
         found.problems.setdefault(number, problem)
 
 
-def cases_of(data: dict[str, Any]) -> list[Case]:
-    """What each command of a scenario comes to."""
+def cases_of(data: dict[str, Any], wanted: Optional[set[int]] = None) -> list[Optional[Case]]:
+    """What each command of a scenario comes to; where places are given, None stands for some of the others."""
     text = json.dumps(data).encode("ascii")
     if len(text) > LONGEST:
         raise running.Refused("/")
     scenario, play = Scenario(None, data), play_text.read(running.played(text))
     scenario.attach(play)
-    cases = [PlayedCase(scenario, fetch, exchanges_of(scenario, fetch)) for fetch in play.fetches()]
-    if b'"http:' in text:  # else nothing stays http
+    is_upgraded = b'"http:' in text  # else nothing stays http
+    cases = [PlayedCase(scenario, fetch, exchanges_of(scenario, fetch))
+             if is_upgraded or wanted is None or place in wanted else None
+             for place, fetch in enumerate(play.fetches())]
+    if is_upgraded:
         known_hosts.tell(scenario, cases)
     return cases
 

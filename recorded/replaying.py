@@ -7,9 +7,7 @@ from typing import Iterator
 from commands.case import Case
 from recorded import verdicts
 from recorded.changes import Changes
-from recorded.differences import DID_NOT, WORKED, Judged
-from recorded.plays import Played, played
-from recorded.rules import Supposed
+from recorded.differences import DID_NOT, WORKED, Judged, played_anew
 from recorded.scenarios import Part
 from recorded.verdicts import Finding
 
@@ -25,14 +23,9 @@ def replayed(judged: Judged, changes: Changes) -> Judged:
 
 
 def of_part(part: Part, findings: list[Finding], changes: Changes) -> Iterator[Finding]:
-    after: dict[Supposed, Played] = {}
+    after = played_anew(part, findings, changes)
     for index, finding in enumerate(findings):
-        if finding.case is None or finding.verdict not in (*WORKED, *DID_NOT):
-            yield finding
-            continue
-        if finding.supposed not in after:
-            after[finding.supposed] = played(part, finding.supposed, changes)
-        case = after[finding.supposed].cases.get(index)
+        case = after.get(index) if finding.verdict in (*WORKED, *DID_NOT) else None
         yield finding if case is None else of_command(finding, case)
 
 

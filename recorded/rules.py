@@ -139,15 +139,17 @@ def passing_headers(origin: str) -> list[tuple[str, str]]:
 
 def read_of(entry: Entry) -> list[tuple[str, str]]:
     """The headers of an answer that are looked at."""
-    found = [(name, value) for name, value in entry.got if is_read(name.lower())]
-    is_led = entry.status in REDIRECTS and entry.redirect and entry.answered("Location") is None
-    return found + ([("Location", entry.redirect)] if is_led else [])
+    if entry.read is None:
+        entry.read = [pair for pair in entry.got if is_read(pair[0])]
+        if entry.status in REDIRECTS and entry.redirect and entry.answered("Location") is None:
+            entry.read.append(("Location", entry.redirect))
+    return entry.read
 
 
 @functools.lru_cache(1024)
 def is_read(name: str) -> bool:
-    """Whether it is one of READ, or a misspelt one."""
-    return name in READ or bool(difflib.get_close_matches(name, READ, 1, 0.85))
+    """Whether a name is one of READ, or a misspelt one."""
+    return name.lower() in READ or bool(difflib.get_close_matches(name.lower(), READ, 1, 0.85))
 
 
 def answer(status: int, headers: list[tuple[str, str]]) -> dict[str, Any]:

@@ -7,7 +7,7 @@ import ipaddress
 import json
 import re
 from dataclasses import dataclass, field
-from typing import Any, Iterator
+from typing import Any, Iterator, Optional
 from urllib.parse import urlsplit
 
 from commands import csp
@@ -18,8 +18,9 @@ from recorded.changes import NONE, Changes
 from recorded.commands_of import Command
 from recorded.known_hosts import Book
 from recorded.model import Entry, Page
-from recorded.rules import PASSING, Rules, Supposed, is_read, rules_of
+from recorded.rules import PASSING, Rules, Supposed, read_of, rules_of
 
+QUOTED = json.encoder.encode_basestring_ascii
 DOCUMENT_HEADERS = (*csp.HEADERS, "referrer-policy")
 MOST_COMMANDS = 1000  # of a part
 MOST_TEXT = 3000000  # characters of a part
@@ -28,6 +29,7 @@ MOST_POLICIES = 16
 MOST_WAIT = 4294967295
 MANY_ANSWERS = "its URL was answered in more ways than are played"
 TWO_ANSWERS = "its redirects come back to a URL that is answered otherwise then, which no scenario has"
+Answers = tuple[list[Rules], list[set[int]], dict[int, str]]
 
 
 @dataclass
@@ -38,6 +40,7 @@ class Part:
     commands: list[Command]
     hsts: list[dict[str, Any]]
     number: int = 0
+    answers: Optional[Answers] = None  # as they are recorded, once they are asked for
 
 
 @dataclass
@@ -55,7 +58,7 @@ def parts_of(page: Page) -> list[Part]:
     parts: list[Part] = []
     book, size, begun = Book(), 0, page.entry.started if page.entry else None
     for command in commands_of.of_page(page):
-        own = len(json.dumps([command.data, command.body])) + sum(map(size_of, command.chain.entries))
+        own = length_of(command.data) + length_of(command.body) + sum(map(size_of, command.chain.entries))
         if not parts or len(parts[-1].commands) >= MOST_COMMANDS or size + own > MOST_TEXT:
             parts.append(Part(page, [], page.hsts + (book.at(begun) if parts else []), len(parts)))
             size = 0
@@ -68,8 +71,16 @@ def parts_of(page: Page) -> list[Part]:
 
 def size_of(entry: Entry) -> int:
     """How long an answer becomes in a scenario, or less."""
-    texts = [entry.url, *(value for name, value in entry.got if is_read(name.lower()))]
-    return 200 + sum(len(text) * (1 if text.isascii() else 6) for text in texts)
+    return 200 + length_of(entry.url) + sum(length_of(value) for _, value in read_of(entry))
+
+
+def length_of(value: Any) -> int:
+    """How long a value is as JSON, but for a few signs."""
+    if isinstance(value, str):
+        return len(QUOTED(value)) + 2
+    if isinstance(value, dict):
+        return sum(len(key) + 6 + length_of(own) for key, own in value.items())
+    return 2 + sum(map(length_of, value)) if isinstance(value, list) else 8
 
 
 # ---- layers
@@ -77,6 +88,20 @@ def size_of(entry: Entry) -> int:
 def layers_of(part: Part, supposed: Supposed = PASSING,
               changes: Changes = NONE) -> tuple[list[Layer], dict[int, str]]:
     """The scenarios of a part, and of the commands that are in none why, by their numbers."""
+    if supposed.bare or changes:
+        found = answers_of(part, supposed, changes)
+    else:  # whose answers are the same, whatever else is supposed
+        part.answers = found = part.answers or answers_of(part, PASSING, NONE)
+    all_rules, owned, left = found
+    everything: Rules = {}
+    for rules in reversed(all_rules):
+        everything.update(rules)
+    return [Layer(scenario_of(part, {**everything, **rules}, supposed, changes), set(own))
+            for rules, own in zip(all_rules, owned)], dict(left)
+
+
+def answers_of(part: Part, supposed: Supposed, changes: Changes) -> Answers:
+    """The rules of each layer, the numbers of the commands that count in it, and why others count in none."""
     all_rules: list[Rules] = []
     owned: list[set[int]] = []
     left: dict[int, str] = {}
@@ -95,11 +120,7 @@ def layers_of(part: Part, supposed: Supposed = PASSING,
             owned.append(set())
         all_rules[place].update(own)
         owned[place].add(number)
-    everything: Rules = {}
-    for rules in reversed(all_rules):
-        everything.update(rules)
-    return [Layer(scenario_of(part, {**everything, **rules}, supposed, changes), own)
-            for rules, own in zip(all_rules, owned)], left
+    return all_rules, owned, left
 
 
 def fits(own: Rules, rules: Rules) -> bool:

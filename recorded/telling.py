@@ -55,8 +55,7 @@ def told_of(page: dict[str, Any]) -> list[dict[str, Any]]:
 
 def finding_lines(finding: dict[str, Any], is_brief: bool) -> Iterator[str]:
     why, is_parted = finding["why"], finding["verdict"] == "parted"
-    said = finding["told"] if is_parted or not why else finding["brief"] if is_brief else why["condition"]
-    yield f"  {WORDS[finding['verdict']]}: {name_of(finding)}: {said}"
+    yield f"  {WORDS[finding['verdict']]}: {name_of(finding)}: {said_of(finding, is_brief)}"
     if is_brief:
         yield from in_all(why) if why and not is_parted else ()
         return
@@ -68,6 +67,13 @@ def finding_lines(finding: dict[str, Any], is_brief: bool) -> Iterator[str]:
         yield f"    {SURE[finding['certainty']]}: {finding['how_sure']}"
     yield f"    recorded: entry {finding['entry']}, {finding['recorded']}"
     yield from (f"    note: {note}" for note in finding["notes"])
+
+
+def said_of(finding: dict[str, Any], is_brief: bool) -> str:
+    """What is said of it first."""
+    if finding["verdict"] == "parted" or not finding["why"]:
+        return finding["told"]
+    return finding["brief"] if is_brief else finding["why"]["condition"]
 
 
 def name_of(finding: dict[str, Any]) -> str:
@@ -139,18 +145,20 @@ def changed_lines(found: dict[str, Any], is_brief: bool) -> Iterator[str]:
     yield from (f"with {change}" for change in found["changes"])
     yield outcome(found)
     yield from (f"  warning: {warning}" for warning in found["warnings"])
-    for moved in found["moved"]:
-        yield f"  note: the page {shown(moved['from'])} would itself be {shown(moved['to'])}"
+    yield from (f"  {moved_line(moved)}" for moved in found["moved"])
     yield from group_lines(found, is_brief)
     yield from bad_lines(found)
+
+
+def moved_line(moved: dict[str, str]) -> str:
+    return f"note: the page {shown(moved['from'])} would itself be {shown(moved['to'])}"
 
 
 def group_lines(found: dict[str, Any], is_brief: bool) -> Iterator[str]:
     """The groups of differences, each with those that are in it."""
     for group in found["groups"]:
         own = [found["differences"][place] for place in group["differences"]]
-        what = BY.get(group["kind"], KINDS[group["kind"]]).format(group["directive"])
-        yield f"  {count(group['count'], 'request')} to {group['host']} {what}"
+        yield f"  {count(group['count'], 'request')} to {group['host']} {kind_of(group)}"
         if not is_brief:
             yield from some(own, difference_line)
 
@@ -176,10 +184,18 @@ def outcome(found: dict[str, Any]) -> str:
 
 
 def difference_line(one: dict[str, Any]) -> str:
+    return f"    {one['method']} {shown(one['url'])} ({one['load']}): {reason_of(one)}"
+
+
+def kind_of(one: dict[str, Any]) -> str:
+    """What a difference is, or the group that has it, in words."""
+    return BY.get(one["kind"], KINDS[one["kind"]]).format(one["directive"])
+
+
+def reason_of(one: dict[str, Any]) -> str:
+    """Why something comes otherwise."""
     said = f"entry {one['cause']} is refused, which asked for it" if "cause" in one else one["told"] or one["why"]
     guessed = f" ({', '.join(one['guesses'])})" if one["guesses"] else ""
-    named = f"    {one['method']} {shown(one['url'])} ({one['load']}): {said or one['directive']}{guessed}"
-    if not one.get("rule"):
-        return named
-    lets = "the browser lets it pass: " if one["by"] == STANDARDS else ""
-    return f"{named} ({lets}docs/BROWSERS.md, `{one['rule']}`)"
+    lets = "the browser lets it pass: " if one.get("by") == STANDARDS else ""
+    rule = f" ({lets}docs/BROWSERS.md, `{one['rule']}`)" if one.get("rule") else ""
+    return f"{said or one['directive']}{guessed}{rule}"

@@ -53,7 +53,8 @@ def answer_lines(group: dict[str, Any]) -> Iterator[str]:
 
 
 def needs(group: dict[str, Any], answer: dict[str, Any]) -> str:
-    return f"{shown(group['urls'])} ({count(len(answer['entries']), 'request')}): the answer to {answer['method']} needs"
+    requests = count(len(answer["entries"]), "request")
+    return f"{shown(group['urls'])} ({requests}): the answer to {answer['method']} needs"
 
 
 def brief_answers(group: dict[str, Any]) -> Iterator[str]:
