@@ -151,8 +151,10 @@ def read(self, words):
     if fault:
         parser.error(fault)
     given.connect_to = dict(given.connect_to)
+    given.glued = stray_words.glued(words)
     if not given.urls and given.from_file is None:
-        parser.error("name a URL")
+        parser.error("name a URL" + "".join("; the header `%s` has one as its value%s" % (name, stray_words.OWN_WORD)
+                                            for name in given.glued[:1]))
     if given.with_secrets and not given.export:
         parser.error("--with-secrets is for --export")
     try:

@@ -16,7 +16,6 @@ from commands.urls import scheme_of
 LIMIT = 1048576
 KNOWN_FOR = 31536000
 OWN_ORIGIN = "it was asked as from a page of its own origin; --from PAGE asks as another page would"
-PACKAGES = {"br": "Debian's package python3-brotli"}
 
 
 def book_of(path):
@@ -187,17 +186,14 @@ class Answered:
         if stream.is_opened and not (stream.cut and stream.cut.is_other):
             yield "%s: the body came as %s all the same: it was decoded, as a browser does it%s" % (
                 exchange.origin, ", ".join(stream.codings), "; %s" % stream.cut if stream.cut else "")
-        if stream.lacks and any(case.result.name == "Coding" for case in self.told.cases):
-            packages = list(filter(None, map(PACKAGES.get, stream.lacks)))
-            yield "%s: %s is not decoded here%s" % (
-                exchange.origin, ", ".join(stream.lacks), ": %s does it" % packages[0] if packages else "")
 
     def of_unread(self, case):
         """What is to be said of the body of what an element loads, where nothing here decodes it, or None."""
-        if case.is_spoilt or not (case.answer and case.answer.stream.lacks and case.is_gzip):
+        is_unread = not case.is_spoilt and case.answer is not None and case.answer.stream.lacks
+        if not (is_unread and (case.is_gzip or case.why_coded)):
             return None
-        return "%s: its body was not read: Content-Encoding says %s%s" % (
-            case.request.origin, case.coding, case.but_gzip)
+        return "%s: its body was not read: Content-Encoding says %s%s%s" % (
+            case.request.origin, case.coding, case.but_gzip, case.why_coded.replace("since", "and"))
 
     def of_packed(self, case):
         """What is to be said of a body that begins as gzip does, where no coding is named, or None."""

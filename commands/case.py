@@ -829,6 +829,14 @@ class Case:
         return "; its first bytes, 1f 8b, are those of gzip" if self.is_gzip else ""
 
     @property
+    def why_coded(self):
+        """What is to be installed, where that is all that a coding lacks here."""
+        from commands import codings  # which bin/ask alone needs
+        is_lacking = "br" in codings.lacking(self.coding)
+        return ", since python3 has no module brotli: install Debian's package python3-brotli, or brotli by pip" \
+            if is_lacking else ""
+
+    @property
     def right_coding(self):
         return "let Content-Encoding say gzip" if self.is_gzip else "leave Content-Encoding out, or compress it"
 

@@ -197,6 +197,7 @@ def outcome_of(test, is_net, patience, is_strict):
     warned = list(warnings(text, scenario, told, test.scenario_name, is_net))
     warned += [(line, True) for line in unnamed(test.expect, told)] if is_strict else []
     warned += [(line, True) for line in unknown(test.expect, test.scenario.decode("utf-8", "replace"))]
+    warned += [(line, True) for line in empty(test.expect, told)]
     faults = [line for line, is_fault in warned if is_fault and is_strict]
     by_strict = [ONLY_STRICT] if faults and not lines else []
     return Outcome(test.name, lines + (wholes if lines else []) + by_strict + faults,
@@ -223,8 +224,7 @@ def untrusted(expect, count):
     wanted = {}
     for key, value in expect.items():
         if fetch_of(key):
-            own = value if isinstance(value, dict) else {"result": value}
-            wanted.setdefault(fetch_of(key)[0], []).append(wanted_refusals.is_meant(own))
+            wanted.setdefault(fetch_of(key)[0], []).append(wanted_refusals.is_meant(as_object(value)))
     return {number for number, are_meant in wanted.items() if all(are_meant) and number < count}
 
 
@@ -269,6 +269,46 @@ def unknown(expect, scenario):
                 break
 
 
+def empty(expect, told):
+    """A line for each fetch or load that comes as a test wants it, and that says nothing of the server or the policy
+    which is tested: the scenario lacks the rule, or this engine never loads the URL."""
+    cases, are_many = cases_of(told), len(told.play.documents) > 1
+    for key, wanted in expect.items():
+        case = cases.get(fetch_of(key))
+        if case is not None:
+            wanted = as_object(wanted)
+            yield from wanted_refusals.by_gap(case, wanted, are_many)
+            yield from under_any_policy(key, case, wanted, are_many)
+
+
+def under_any_policy(key, case, wanted, are_many):
+    """Of a URL that this engine never loads that a test wants of it what comes whatever the page's policies say."""
+    is_asked = case.is_unloaded and not case.is_mixed_socket and case.policies and "violations" not in wanted
+    result = wanted.get("result")
+    if is_asked and (result is None or all(is_met(result, as_if(case, word)) for word in ("refused", "none"))):
+        what = f"`{result}`" if result is not None else "what the test wants"
+        meant = json.dumps({**wanted, **as_it_came(case)})
+        yield (f"warning: {verdicts.named(case, are_many)}: {what} comes under every policy, since this engine does not "
+               f'load the URL: write "{key}": {meant}, which asks the policies, if that is meant')
+
+
+def as_if(case, verdict):
+    """The result of a case, had it this verdict."""
+    result = copy.copy(case.result)
+    result.verdict = verdict
+    return result
+
+
+def as_object(wanted):
+    """What a test wants of a fetch or load, as an object."""
+    return {"result": wanted} if isinstance(wanted, str) else wanted
+
+
+def cases_of(told):
+    """The cases of a play by the numbers of their documents and their names."""
+    return {(case.fetch.document.number, case.fetch.name): case for case in told.cases}
+
+
 def whole_lines(scenario, told, passing, lacking, is_met):
     """The policies that let all pass which is to pass, where one has several changes; of a test that is met those that
     are warned of."""
@@ -293,7 +333,7 @@ def whole_lines(scenario, told, passing, lacking, is_met):
 
 def differences(expect, told, passing):
     """Lines for all that came otherwise. What a policy is to let pass is added to `passing`, as by policy_questions."""
-    cases = {(case.fetch.document.number, case.fetch.name): case for case in told.cases}
+    cases = cases_of(told)
     for key, wanted in expect.items():
         if key == "sent":
             yield from missing(told, listed(wanted))
@@ -318,8 +358,7 @@ def missing(told, wanted):
 def unwanted(told, wanted, expect):
     own = {fetch_of(key): value for key, value in expect.items() if fetch_of(key)}
     for case in told.cases:
-        meant = own.get((case.fetch.document.number, case.fetch.name), {})
-        meant = {"result": meant} if isinstance(meant, str) else meant
+        meant = as_object(own.get((case.fetch.document.number, case.fetch.name), {}))
         for request, _ in case.exchanges:
             for one in wanted:
                 if wanted_requests.is_met(one, request):
@@ -345,7 +384,7 @@ def of_fetch(key, wanted, cases, passing, sent):
         has = ", ".join(name for _, name in list(cases)[:20]) or "none"
         yield "%s: there is none; the play has %s" % (key, has)
         return
-    wanted = {"result": wanted} if isinstance(wanted, str) else wanted
+    wanted = as_object(wanted)
     found = list(of_case(case, wanted))
     yield from ("%s%s: %s" % (key, verdicts.asked(case), line) for _, line in found)
     failed = {name for name, _ in found}
@@ -363,8 +402,7 @@ def of_fetch(key, wanted, cases, passing, sent):
 def change_of_test(key, case, wanted):
     """What a test is to say of a URL that this engine never loads, where no change of a policy brings what it wants."""
     word = "refused" if wanted_refusals.is_meant(wanted) else "no-verdict"
-    came = copy.copy(case.result)
-    came.verdict = "refused" if word == "refused" else "none"
+    came = as_if(case, "refused" if word == "refused" else "none")
     if not case.is_unloaded or is_met(wanted["result"], came):
         return
     own = [one for one in findings.violations(case) if word == "refused" or one["disposition"] == "report"]

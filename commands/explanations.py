@@ -475,7 +475,7 @@ ASKED = {
     "seen/body-hang": ("the head came, and the body did not end before the time limit{c.but_length}",
                        "end it{c.or_length}; of a stream that has no end a page reads what comes, which is not done "
                        "here"),
-    "no-verdict/coded": ("no verdict: {c.coding} is not decoded here; a browser would read the body only if it is of "
+    "no-verdict/coded": ("no verdict: {c.coding} is not decoded here{c.why_coded}; a browser would read the body only if it is of "
                          "that coding{c.but_gzip}; CORS, policies and types let it",
                          "{c.if_gzip}for a verdict here send the body uncoded, and {change}{c.unless_gzip}"),
     "seen/body-toobig": ("the body is longer than the 1,048,576 bytes that are read here", "nothing: a page reads on"),

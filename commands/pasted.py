@@ -7,6 +7,7 @@ import fiorrudda
 from commands import guards
 from commands.ask_words import KINDS, Wrong
 from commands.scenario import joined, origin_of
+from commands.stray_words import OWN_WORD
 
 OWN = "a browser sends its own"
 CACHE = "a browser's cache adds it"
@@ -134,6 +135,8 @@ class Said:
                           "shell" % name)
             if not value:
                 self.note("`%s` is sent without a value" % name)
+            if name in self.given.glued:
+                self.note("the URL behind `%s:` is sent as the value of that header%s" % (name, OWN_WORD))
         hints = [name for name, _ in self.headers if name.lower() in HINTS]
         if hints and self.is_copied and self.is_foreign():
             self.note("the browser may have added %s by itself (client hints), which asks for no preflight: leave out "

@@ -7,10 +7,16 @@ SCHEME = re.compile(r"\s*[A-Za-z][A-Za-z0-9+.\-]*:(?!\d)")  # and no host with i
 PATH = re.compile(r"/|(?:[\w\-]+\.)*[\w\-]+(?::\d+)?/")  # of a URL whose beginning is missing
 NAME = re.compile(r"[A-Za-z\-]{1,40}(?=[\s=]|$)")
 OF_HEADERS = re.compile("(?:-H|--header=)(.+)", re.DOTALL)
+# A URL with nothing before it, or right behind what is no place for one.
+WHOLE_URL = re.compile(r"\s*(?:https?|wss?)://|.*[\w*/+]https?://", re.I)
+# Headers whose values have no URL in such a place.
+WITHOUT_URLS = re.compile(r"accept(?:-\w+)?|authorization|cache-control|connection|content-(?:length|type)|if-.*|pragma|"
+                          r"priority|range|sec-.*|te|dnt", re.I)
 WITH_A_VALUE = ("-d", "--data", "--data-raw", "--data-binary", "--data-ascii", "--data-urlencode", "-b", "--cookie",
                 "-A", "--user-agent", "-u", "--user")
 CMD = "copied for cmd: copy as cURL (bash)"
 BLANK = "a word is a blank: take the blank behind the \\ at a line's end away"
+OWN_WORD = ": is a quote or a blank missing before the URL? One that is to be asked is a word of its own"
 WHOLE = "write it whole, as https://api.example/x"
 # What stands before a secret, and is none.
 KINDS_OF_SECRETS = ("basic", "bearer", "digest", "dpop", "negotiate", "token")
@@ -26,6 +32,10 @@ def of_header(word):
         if first is None:
             return "a header has no colon: write it as 'Name: value'"
         return "the header `%s` has no colon: write it as '%s: value'" % (first.group(), first.group())
+    if name.strip().lower() in ("http", "https", "ws", "wss") and value.startswith("//"):
+        return "a URL stands where a header belongs: let it stand as a word of its own, and write -H 'Name: value'"
+    if WITHOUT_URLS.fullmatch(name.strip()) and WHOLE_URL.match(value):
+        return "the header `%s` has a URL as its value%s" % (name.strip(), OWN_WORD)
     if '"' in name or name.startswith("'") and value.endswith("'"):
         return "the header `%s` has a quote in its name: take the inner quotes away" % name.strip()
     return None
@@ -87,6 +97,15 @@ def behind(words, url):
         if SCHEME.match(word) and not word.endswith(":") and not is_value(words, at):
             return None, None
     return None, None
+
+
+def glued(words):
+    """The names of the headers whose value is a URL right behind the colon, as where a quote or a blank is missing."""
+    texts = [text for word, after in zip(words, [*words[1:], ""])
+             for text in ([after] if word in ("-H", "--header") else OF_HEADERS.findall(word))]
+    named = [text.partition(":") for text in texts]
+    return [name.strip() for name, _, value in named
+            if re.match(r"https?://", value, re.I) and name.strip().lower() not in ("origin", "referer")]
 
 
 def is_value(words, at):
