@@ -1,5 +1,5 @@
-"""Scenarios whose advice commands/check_advice follows to the end, beside those of cases.py: mistakes that stand together,
-what a server sends already, chains of redirects, and policies as people write them."""
+"""Scenarios whose advice commands/check_advice follows to the end, beside those of cases.py: mistakes that stand
+together, what a server sends already, chains of redirects, and policies as people write them."""
 from commands.cases import (API, DIGEST, INCLUDE, NAMED, OK, PAGE, POLICY, PUT, SECRET, TRUE, allow, answered, fetch, load,
                             policed, raw, rule, scenario)
 

@@ -56,8 +56,8 @@ class Head:
 
 
 class Answer:
-    """What came for one request. Of a scripted server `server` and `rule` are numbers, or None where there is none; over a
-    network `link` says how the connection went: done, or a word of relay.py."""
+    """What came for one request. Of a scripted server `server` and `rule` are numbers, or None where there is none;
+    over a network `link` says how the connection went: done, or a word of relay.py."""
 
     def __init__(self, data, server=None, rule=None, link=None):
         self.data = data
@@ -199,8 +199,8 @@ def data_of(rule):
 # ---- heads
 
 class Beginning:
-    """The first bytes of an answer, up to those that decide whether it has a head: `head` is the final one, `problem` says
-    in a word why there is none, and neither is there before."""
+    """The first bytes of an answer, up to those that decide whether it has a head: `head` is the final one, `problem`
+    says in a word why there is none, and neither is there before."""
 
     def __init__(self):
         self.data = bytearray()

@@ -137,8 +137,8 @@ def domain_of(word):
 
 
 class Answered:
-    """What came of a question: the lines, the exchanges in order, and what is told of them. `play` asks, `tell` tells; each
-    may be ended by the time limit, and leaves what had come."""
+    """What came of a question: the lines, the exchanges in order, and what is told of them. `play` asks, `tell` tells;
+    each may be ended by the time limit, and leaves what had come."""
 
     def __init__(self, question):
         self.question = question

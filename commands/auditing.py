@@ -171,8 +171,8 @@ def of_text(offset, scenario, text, name):
 
 
 def right(scenario, text):
-    """The text that the play with this history has, where plays that are made here tell each document's part: a document
-    does the same where it calls the same and is replied to the same."""
+    """The text that the play with this history has, where plays that are made here tell each document's part: a
+    document does the same where it calls the same and is replied to the same."""
     parts, given = {}, text.calls()
     for made in plays(scenario):
         calls, blocks = made.calls(), made.blocks()

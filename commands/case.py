@@ -1,5 +1,5 @@
-"""What is known of one fetch that was played: the command, the requests with their answers, and the result. The table of
-explanations asks it, and its texts name its parts."""
+"""What is known of one fetch that was played: the command, the requests with their answers, and the result. The table
+of explanations asks it, and its texts name its parts."""
 import base64
 import copy
 import hashlib
@@ -29,8 +29,8 @@ SOCKETS = ("ws", "wss")
 # What made a URL one of https, in words.
 MOST_UNSERVED = 3
 CAUSES = {"hsts": "HSTS", "policy": "upgrade-insecure-requests", "mixed": "mixed content"}
-# A policy that a request violates: its number and disposition, the effective directive, the URL that it was asked of, and
-# whether a redirect led there, or it was that of the response.
+# A policy that a request violates: its number and disposition, the effective directive, the URL that it was asked of,
+# and whether a redirect led there, or it was that of the response.
 Violation = namedtuple("Violation", "policy enforced directive url redirected at_response")
 
 
@@ -59,8 +59,9 @@ class Request:
 
 
 class Case:
-    """`exchanges` are pairs of a request and its answer, in order; the answer is None where it is not known. `is_net` says
-    whether real servers answered, "direct" whether they were asked by their own names, over TLS where the URL says so."""
+    """`exchanges` are pairs of a request and its answer, in order; the answer is None where it is not known. `is_net`
+    says whether real servers answered, "direct" whether they were asked by their own names, over TLS where the URL says
+    so."""
 
     def __init__(self, scenario, fetch, exchanges, is_net=False):
         self.scenario = scenario
@@ -367,7 +368,8 @@ class Case:
 
     @property
     def preflight_head(self):
-        """The head that answered a preflight at this URL, or would by the scenario's servers; None where it is not known."""
+        """The head that answered a preflight at this URL, or would by the scenario's servers; None where it is not
+        known."""
         heads = [answer.head for request, answer in self.exchanges
                  if is_preflight(request) and self.whole(request) == self.asked_url]
         return heads[-1] if heads else self.head_of("OPTIONS")
@@ -385,7 +387,8 @@ class Case:
 
     @cached_property
     def needs_told(self):
-        """The same, where the page asks as it should: by the method in capitals, and without a User-Agent of its own."""
+        """The same, where the page asks as it should: by the method in capitals, and without a User-Agent of its
+        own."""
         needs = copy.copy(self.needs)
         if self.result.number == 10 and self.is_page_in_small:
             needs.method = self.same_method
@@ -482,7 +485,8 @@ class Case:
 
     @cached_property
     def violations(self):
-        """Each violation that was told, once for each policy and URL; of a URL that is not loaded here those that were."""
+        """Each violation that was told, once for each policy and URL; of a URL that is not loaded here those that
+        were."""
         found, hops, number = [], self.hops, 0
         for event in self.fetch.events:
             if event.kind == "send" and not is_preflight(event):
@@ -649,7 +653,8 @@ class Case:
 
     @property
     def common_nonce(self):
-        """The nonce that is to stand at the element: its own, where a policy has it, or the first of a policy; or an empty text."""
+        """The nonce that is to stand at the element: its own, where a policy has it, or the first of a policy; or an
+        empty text."""
         effective = csp.EFFECTIVE[self.kind]
         lists = [csp.deciding(policy, effective)[1] for policy in self.mended]
         mended = [(words, dict(csp.unquoted(words))) for words in lists]
@@ -943,8 +948,8 @@ class Case:
 
     @property
     def is_silent(self):
-        """Whether the connection was given up, since nothing more came: by whoever kept the answer, or by fetchplay itself, who is
-        less patient then."""
+        """Whether the connection was given up, since nothing more came: by whoever kept the answer, or by fetchplay
+        itself, who is less patient then."""
         return self.link == "hang" or (self.link == "done" and not self.is_direct)
 
     @property
@@ -1178,8 +1183,8 @@ def are_whole(data, at):
 
 
 def distinct(violations):
-    """Each of a policy and a URL once: a report-only policy is told at the request and at the response, and the URL of that
-    may be upgraded."""
+    """Each of a policy and a URL once: a report-only policy is told at the request and at the response, and the URL of
+    that may be upgraded."""
     found = {}
     for one in violations:
         found.setdefault((one.policy, secure(one.url)), one)

@@ -1,5 +1,5 @@
-"""Warnings: what a scenario may say, and surely is meant otherwise. Each is a place of the text and a sentence. All of them
-take time in proportion to the scenario and its play, however many rules, keys or origins these have."""
+"""Warnings: what a scenario may say, and surely is meant otherwise. Each is a place of the text and a sentence. All of
+them take time in proportion to the scenario and its play, however many rules, keys or origins these have."""
 from collections import namedtuple
 from urllib.parse import urlsplit
 

@@ -1,6 +1,6 @@
-"""What is to be changed, as data, and the sentence that is made of it. An edit is an object: `at` says where (preflight,
-answer, page, request or scenario), and `set`, `remove` or `add` what, with its `value`. That of an answer has the
-`method` and the `url` of its request; that of a policy its number, and `set` is the name of the directive.
+"""What is to be changed, as data, and the sentence that is made of it. An edit is an object: `at` says where
+(preflight, answer, page, request or scenario), and `set`, `remove` or `add` what, with its `value`. That of an answer
+has the `method` and the `url` of its request; that of a policy its number, and `set` is the name of the directive.
 
     {"at": "answer", "method": "PUT", "url": "https://api.test/x", "set": "Content-Type", "value": "text/css"}
     {"at": "preflight", "method": "OPTIONS", "url": "https://api.test/x", "set": "status", "value": 204}

@@ -153,7 +153,8 @@ def upgrade_problem(wanted):
 
 
 def scenario_of(node, text, path):
-    """The bytes of the scenario, and the name of its file. Of one that stands in the test the places are those of the test."""
+    """The bytes of the scenario, and the name of its file. Of one that stands in the test the places are those of the
+    test."""
     if node.kind == "object":
         before = re.sub(r"[^\n]", " ", text[:node.start])
         return (before + text[node.start:node.end]).encode("utf-8"), path or "standard input"

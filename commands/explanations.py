@@ -1,9 +1,10 @@
 """Why a fetch came to what it came: one table of ways, the first that holds of a case.
 
 Each network error, each fault and each result that lets a script see less than was sent has its ways, and each way the
-condition that failed, the header that decided, what to change, the rule's page, and the changes as data (changes.py), of
-which the text is made where it says {change}. In the texts `c` is the case (case.py). `commands/check` shows that each way
-is reached and that no result of any stored play is without one, and `commands/check_advice` that each change helps."""
+condition that failed, the header that decided, what to change, the rule's page, and the changes as data (changes.py),
+of which the text is made where it says {change}. In the texts `c` is the case (case.py). `commands/check` shows that
+each way is reached and that no result of any stored play is without one, and `commands/check_advice` that each change
+helps."""
 import difflib
 import re
 from collections import namedtuple
@@ -118,7 +119,7 @@ PREFLIGHTS = [
         "the answer to the preflight has no Access-Control-Allow-Methods, and {c.method} is none of GET, HEAD and POST",
         ALLOW_METHODS, "{change}", PREFLIGHT, changes.cors),
     Way("preflight/method-star-with-credentials", "10", lambda c: "*" in c.methods and c.includes,
-        "Access-Control-Allow-Methods is `*`, which covers no method of a request with credentials", ALLOW_METHODS,
+        "Access-Control-Allow-Methods has `*`, which covers no method of a request with credentials", ALLOW_METHODS,
         "list the method in its place: {change}", PREFLIGHT, changes.cors),
     Way("preflight/method-in-another-case", "10", lambda c: c.same_method != "",
         "Access-Control-Allow-Methods has `{c.same_method}`, and the request's method is `{c.method}`: the case counts",
@@ -137,7 +138,7 @@ PREFLIGHTS = [
         "the answer to the preflight has no Access-Control-Allow-Headers, and the request has {c.result.detail}",
         ALLOW_HEADERS, "{change}", PREFLIGHT, changes.cors),
     Way("preflight/header-star-with-credentials", "11", lambda c: "*" in c.names and c.includes,
-        "Access-Control-Allow-Headers is `*`, which covers no header of a request with credentials", ALLOW_HEADERS,
+        "Access-Control-Allow-Headers has `*`, which covers no header of a request with credentials", ALLOW_HEADERS,
         "list the names in its place: {change}", PREFLIGHT, changes.cors),
     Way("preflight/header-not-listed", "11", always,
         "Access-Control-Allow-Headers does not have {c.result.detail}", ALLOW_HEADERS,
@@ -489,8 +490,8 @@ SOMETIMES = re.compile(r"\{c\.(?:where|back_where|next_differs|no_cookie|but_kno
 
 
 def way_lines():
-    """Each way in a line: its name, its results, and its condition, in which words in capitals stand for what is told of the
-    fetch."""
+    """Each way in a line: its name, its results, and its condition, in which words in capitals stand for what is told
+    of the fetch."""
     for way in TABLE:
         text = SOMETIMES.sub("", way.condition).replace("{c.the_answer}", "the answer")
         condition = re.sub(r"\{c\.(?:\w+[.\[])*(\w+)\]?\}",

@@ -1,7 +1,7 @@
 """Reads a JSON text to a tree whose nodes have their places, or says in one sentence what is wrong and what to change.
 
-What is taken is what the program takes: RFC 8259 in UTF-8, nested no more than 127 deep. A place is a number of characters
-from the beginning."""
+What is taken is what the program takes: RFC 8259 in UTF-8, nested no more than 127 deep. A place is a number of
+characters from the beginning."""
 import bisect
 import functools
 import re
@@ -33,8 +33,8 @@ class Fault(Exception):
 
 
 class Node:
-    """A value of the text: `kind` is object, list, string, number or word. An object has `members`, pairs of a key's node
-    and a value's; a list has `items`; any other has a `value`, and `text`, as it is written."""
+    """A value of the text: `kind` is object, list, string, number or word. An object has `members`, pairs of a key's
+    node and a value's; a list has `items`; any other has a `value`, and `text`, as it is written."""
 
     __slots__ = ("kind", "start", "end", "members", "items", "value", "text")
 

@@ -28,7 +28,8 @@ class Request:
 
 
 class Servers:
-    """One listener for all origins: what it answers is `answer(request)`: bytes, a word (hang, reset), or bytes and then a word."""
+    """One listener for all origins: what it answers is `answer(request)`: bytes, a word (hang, reset), or bytes and
+    then a word."""
 
     def __init__(self, answer, pair=None):
         self.answer = answer

@@ -35,8 +35,8 @@ def items_of(value):
 
 
 def merged(value, more, as_names, known=None):
-    """A list with more items, each once, and what is no token cut into those in it, as far as they are known. Names have no
-    case."""
+    """A list with more items, each once, and what is no token cut into those in it, as far as they are known. Names
+    have no case."""
     found, there = {}, []
     for item in items_of(value):
         pieces = [item] if TOKEN.fullmatch(item) else TOKEN.findall(item)

@@ -1,5 +1,5 @@
-"""What the words of bin/ask come to for a page: which of the headers a script can set, what a browser sends in the place
-of the others, and what a request that was copied as cURL says of its page."""
+"""What the words of bin/ask come to for a page: which of the headers a script can set, what a browser sends in the
+place of the others, and what a request that was copied as cURL says of its page."""
 import base64
 
 import fiorrudda

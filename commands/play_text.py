@@ -1,5 +1,5 @@
-"""Reads the text of a play, as docs/rules/printed-text.md has it: the documents with their events, each with its lines, and
-the history. What is no play is refused with its line."""
+"""Reads the text of a play, as docs/rules/printed-text.md has it: the documents with their events, each with its lines,
+and the history. What is no play is refused with its line."""
 import re
 
 RESULT = re.compile(r"result (?:(error|failed) (?:(type-error) )?(\d+) (\w+)(?: (\S+))?|type-error (\d+) (\w+)(?: (\d+))?"
@@ -34,9 +34,9 @@ class Event:
 
 
 class Result(Event):
-    """What a fetch or a load came to. `type` is that of the last result (docs/scenario.md); of an error or a fault there
-    are `number`, `name` and `detail`, and of a response `status`, `url`, `headers` and the `body`: how it ended, and its
-    bytes where it came whole."""
+    """What a fetch or a load came to. `type` is that of the last result (docs/scenario.md); of an error or a fault
+    there are `number`, `name` and `detail`, and of a response `status`, `url`, `headers` and the `body`: how it ended,
+    and its bytes where it came whole."""
 
     def __init__(self, line, found):
         super().__init__("result", line)

@@ -144,7 +144,8 @@ def parts_of(questions):
 
 
 def played(data, parts):
-    """Plays a document for each part. Pairs of a case, which is None where the run had ended before it, and its question."""
+    """Plays a document for each part. Pairs of a case, which is None where the run had ended before it, and its
+    question."""
     _, _, told = asking.played(json.dumps(scenario_of(data, parts)).encode("utf-8"))
     cases = {(case.fetch.document.number, case.fetch.number): case for case in told.cases}
     return [(cases.get((number, index)), question)

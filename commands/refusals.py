@@ -1,5 +1,5 @@
-"""Why a scenario, or a test, is refused: the line, the column, and in a sentence what is wrong there and what to change; with
-the words that may stand there and what the schema says."""
+"""Why a scenario, or a test, is refused: the line, the column, and in a sentence what is wrong there and what to
+change; with the words that may stand there and what the schema says."""
 import difflib
 import json
 import re

@@ -32,8 +32,8 @@ def joined(url, base):
 
 
 class Command:
-    """A fetch or a load that a script made: `options` are its keys, with what stands for those that are missing; `url` is
-    its text after templates; `path` leads to it; `waited` is how many seconds the script had waited by then."""
+    """A fetch or a load that a script made: `options` are its keys, with what stands for those that are missing; `url`
+    is its text after templates; `path` leads to it; `waited` is how many seconds the script had waited by then."""
 
     def __init__(self, path, kind, given, last, waited=0):
         self.path = path
@@ -91,7 +91,8 @@ def holds(condition, last):
 
 
 class Walk:
-    """Goes through a script as the program does: `step` gives the command of the next fetch or load, by the last result."""
+    """Goes through a script as the program does: `step` gives the command of the next fetch or load, by the last
+    result."""
 
     def __init__(self, script, path):
         self.last = None
@@ -157,8 +158,8 @@ class Scenario:
         return found
 
     def server_like(self, origin):
-        """The number of an origin's server; where it has none that of the other scheme, else of another one of its host,
-        or None."""
+        """The number of an origin's server; where it has none that of the other scheme, else of another one of its
+        host, or None."""
         scheme, _, rest = origin.partition("://")
         others = self.origins_by_host.get(urlsplit(origin).hostname, [])
         near = [origin, ("http://" if scheme == "https" else "https://") + rest, *others]

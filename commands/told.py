@@ -1,5 +1,5 @@
-"""A play with the answers of the servers and the explanations between its lines. Each line that is not of the play begins
-with `<` or `#`, so the play is what is left without them."""
+"""A play with the answers of the servers and the explanations between its lines. Each line that is not of the play
+begins with `<` or `#`, so the play is what is left without them."""
 import functools
 
 from commands import answers, known_hosts
@@ -113,7 +113,8 @@ def scripted(scenario, play):
 
 
 class Recorded:
-    """The answers that a relay has kept, for the requests of a play: each request takes the first connection that carried it."""
+    """The answers that a relay has kept, for the requests of a play: each request takes the first connection that
+    carried it."""
 
     def __init__(self, scenario, relay):
         self.scenario = scenario
