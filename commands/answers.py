@@ -192,7 +192,8 @@ def bytes_of(scenario, server, index):
 def data_of(rule):
     if "raw" in rule:
         return rule["raw"].encode("utf-8", "surrogatepass")
-    lines = ["HTTP/1.1 %d Scripted" % rule["status"]] + ["%s: %s" % (name, value) for name, value in rule.get("headers", [])]
+    lines = ["HTTP/1.1 %d Scripted" % rule["status"]]
+    lines += ["%s: %s" % (name, value) for name, value in rule.get("headers", [])]
     return ("\r\n".join(lines) + "\r\n\r\n" + rule.get("body", "")).encode("utf-8", "surrogatepass")
 
 

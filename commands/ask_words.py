@@ -105,8 +105,8 @@ def of_request(given):
 def of_curl(given):
     given = given.add_argument_group(
         "words of curl",
-        "a command that a browser copies as cURL is taken as it is, with the word curl or without; what a page could not "
-        "send is left out, and noted; -i, -s, -S, -v, -L, -g and --compressed change nothing")
+        "a command that a browser copies as cURL is taken as it is, with the word curl or without; what a page could "
+        "not send is left out, and noted; -i, -s, -S, -v, -L, -g and --compressed change nothing")
     given.add_argument("-b", dest="pasted", metavar="'N=V; ..'", action="append", type=pasted_cookies, default=[],
                        help="the cookies that went along")
     given.add_argument("-A", "--user-agent", metavar="TEXT", dest="agent")

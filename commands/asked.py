@@ -208,8 +208,8 @@ class Answered:
         own, page = self.question.origin, self.question.page
         requests = [request for case in self.told.cases for request, _ in case.chain]
         if not requests:
-            only = "only a preflight was sent" if any(case.exchanges for case in self.told.cases) else "nothing was sent"
-            return "no cookie was sent, since " + only
+            is_asked = any(case.exchanges for case in self.told.cases)
+            return "no cookie was sent, since %s was sent" % ("only a preflight" if is_asked else "nothing")
         if any(play_text.header_of(request, "Cookie") for request in requests):
             is_same = fiorrudda.same_site(page, own) and urlsplit(page).scheme == urlsplit(own).scheme
             return None if is_same else (

@@ -136,7 +136,8 @@ def plays(scenario):
 
 def of_calls(document, scenario, text, name):
     given = text.calls().get(document, [])
-    lines = ["Document %d has %d entries of the history, and its run over them makes other calls." % (document, len(given))]
+    lines = ["Document %d has %d entries of the history, and its run over them makes other calls." % (
+        document, len(given))]
     for made in plays(scenario):
         calls = made.calls().get(document, [])
         same = 0

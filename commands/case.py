@@ -18,6 +18,7 @@ from commands.urls import (comes_from, differences, host_of, is_address, is_trus
                            secure)
 
 ALGORITHMS = ("sha256", "sha384", "sha512")
+DIGEST = re.compile(r"(?:^|\s)(sha256|sha384|sha512)-([A-Za-z0-9+/_-]+={0,2})(?=[\s?]|$)")
 CHUNK_LINE = re.compile(rb"([0-9a-fA-F]{1,16})[^\r\n]*\r\n")
 REDIRECTS = (301, 302, 303, 307, 308)
 MOST_REDIRECTS = 20
@@ -641,7 +642,8 @@ class Case:
     def then_strict(self):
         """What 'strict-dynamic' means for the page's other scripts, once it has its quotes."""
         is_new = self.kind == "script" and "'strict-dynamic'" in [right.lower() for _, right in self.unquoted_words]
-        return "; then no host counts for scripts, and each that a parser inserts needs a nonce or a hash" if is_new else ""
+        return ("; then no host counts for scripts, and each that a parser inserts needs a nonce or a hash"
+                if is_new else "")
 
     @property
     def policy_nonces(self):
@@ -749,7 +751,7 @@ class Case:
     @property
     def digests(self):
         """The valid tokens of the integrity text, by algorithm."""
-        found = re.findall(r"(?:^|\s)(sha256|sha384|sha512)-([A-Za-z0-9+/_-]+={0,2})(?=[\s?]|$)", self.command.options["integrity"])
+        found = DIGEST.findall(self.command.options["integrity"])
         return {name: [value for own, value in found if own == name] for name in ALGORITHMS if name in dict(found)}
 
     @property

@@ -20,7 +20,8 @@ def allow(*headers, **more):
 
 
 def scenario(command, rules=None, origin=API, page=PAGE + "/", headers=(), **more):
-    document = {"url": page, "headers": [list(one) for one in headers], "script": command if isinstance(command, list) else [command]}
+    script = command if isinstance(command, list) else [command]
+    document = {"url": page, "headers": [list(one) for one in headers], "script": script}
     if "top" in more:
         document["top"] = more.pop("top")
     servers = [] if rules is None else [{"origin": origin, "rules": rules}]
@@ -222,6 +223,7 @@ NET = {
 
 def scripted():
     """Each way's name, its scenario as a text, and the name of the fetch."""
-    for name, given in {**CORS, **PREFLIGHTS, **UNLOADED, **BEFORE_SENDING, **POLICIES, **ANSWERS, **REQUESTS, **SEEN}.items():
+    tables = (CORS, PREFLIGHTS, UNLOADED, BEFORE_SENDING, POLICIES, ANSWERS, REQUESTS, SEEN)
+    for name, given in (row for table in tables for row in table.items()):
         data, which = given if isinstance(given, tuple) else (given, None)
         yield name, json.dumps(data), which

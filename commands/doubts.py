@@ -69,7 +69,8 @@ def servers_without_use(scenario):
     nodes = scenario.root.member("servers")
     for index, server in enumerate(scenario.servers()):
         if scenario.server_of(server["origin"]) != index:
-            yield nodes.items[index].start, "another server of %s stands before this one, and answers all its requests" % server["origin"]
+            yield nodes.items[index].start, (
+                "another server of %s stands before this one, and answers all its requests" % server["origin"])
 
 
 def rule_nodes(scenario, server):
@@ -162,7 +163,8 @@ def pages_of_known_hosts(scenario):
 
 
 def origins_without_server(scenario, play, is_net):
-    known = [origin for origin, _ in scenario.data.get("routes", [])] if is_net else [one["origin"] for one in scenario.servers()]
+    known = ([origin for origin, _ in scenario.data.get("routes", [])] if is_net
+             else [one["origin"] for one in scenario.servers()])
     by_host = {host_of(one): one for one in reversed(known)}
     what = "route" if is_net else "server"
     told = set(known)
@@ -190,5 +192,5 @@ def cookies_elsewhere(scenario, play):
     for index, (origin, _) in enumerate(scenario.data.get("cookies", [])):
         near = by_host.get(host_of(origin))
         if origin not in asked and near:
-            yield node.items[index].start, "this cookie is of %s, and the requests go to %s: a scenario's cookies have a scheme and a port" % (
-                origin, near)
+            yield node.items[index].start, (f"this cookie is of {origin}, and the requests go to {near}: a scenario's "
+                                            "cookies have a scheme and a port")

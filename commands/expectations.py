@@ -5,8 +5,8 @@ import json
 import os
 import re
 
-from commands import (asking, edits, findings, json_text, known_hosts, lints, notes, play_text, policy_questions, refusals,
-                      results, running, streams, verdicts, wanted_refusals, wanted_requests)
+from commands import (asking, edits, findings, json_text, known_hosts, lints, notes, play_text, policy_questions,
+                      refusals, results, running, streams, verdicts, wanted_refusals, wanted_requests)
 from commands.asking import Wrong
 from commands.case import CAUSES
 from commands.explanations import NOTHING, TABLE, explain, lines_of
@@ -62,8 +62,8 @@ def check(text, root):
     schema = schema_of_tests()
     problems = schema.check(root)
     if problems and root.kind == "object" and root.member("documents") and not root.member("expect"):
-        raise Wrong(refusals.Refusal(text, root.start, "/", "this is a scenario, and no test: bin/why plays it; a test has the "
-                                     'keys "scenario" and "expect"'))
+        raise Wrong(refusals.Refusal(text, root.start, "/", "this is a scenario, and no test: bin/why plays it; a test "
+                                     'has the keys "scenario" and "expect"'))
     if problems:
         first = min(problems, key=lambda problem: problem.kind == "missing")  # that may be a misspelt one
         raise Wrong(refusals.of_problem(text, first, schema))
@@ -80,8 +80,9 @@ def wrongs(key, value):
         yield from of_requests(value, key.value)
     else:
         if not KEY.fullmatch(key.value):
-            yield key, key.value, 'the key "%s" names no fetch: write "fetch 0", "load 2", "document 1 fetch 0", or one of %s' % (
-                key.value, ", ".join('"%s"' % one for one in OTHERS))
+            others = ", ".join('"%s"' % one for one in OTHERS)
+            yield key, key.value, (f'the key "{key.value}" names no fetch: write "fetch 0", "load 2", "document 1 fetch '
+                                   f'0", or one of {others}')
         yield from of_outcome(key.value, value)
 
 
@@ -266,7 +267,8 @@ def unknown(expect, scenario):
         found = re.fullmatch(r"(?:https?://([^/?]*))?(/[^?]*)?.*", where)
         for part in filter(None, found.groups() if found else [where]):
             if part not in scenario:
-                yield f"warning: never sent: {one}: nothing in the scenario has {part}: is it spelt as it would be sent?"
+                yield (f"warning: never sent: {one}: nothing in the scenario has {part}: is it spelt as it would be "
+                       "sent?")
                 break
 
 
@@ -289,8 +291,8 @@ def under_any_policy(key, case, wanted, are_many):
     if is_asked and (result is None or all(is_met(result, as_if(case, word)) for word in ("refused", "none"))):
         what = f"`{result}`" if result is not None else "what the test wants"
         meant = json.dumps({**wanted, **as_it_came(case)})
-        yield (f"warning: {verdicts.named(case, are_many)}: {what} comes under every policy, since this engine does not "
-               f'load the URL: write "{key}": {meant}, which asks the policies, if that is meant')
+        yield (f"warning: {verdicts.named(case, are_many)}: {what} comes under every policy, since this engine does "
+               f'not load the URL: write "{key}": {meant}, which asks the policies, if that is meant')
 
 
 def as_if(case, verdict):
@@ -508,7 +510,8 @@ def look_at_violations(case, wanted):
 
 def is_part(wanted, violation):
     """Whether a violation has all words that a test says of it."""
-    return all(own in (None, other) for own, other in zip(VIOLATION.fullmatch(wanted).groups(), violation.split(" ", 3)))
+    pairs = zip(VIOLATION.fullmatch(wanted).groups(), violation.split(" ", 3))
+    return all(own in (None, other) for own, other in pairs)
 
 
 def look_at_upgrades(case, wanted):

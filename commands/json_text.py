@@ -260,7 +260,8 @@ class Reader:
         if not sign:
             return "the text ends, and the %s of line %d is not closed: add %s" % (opening, line, close)
         if sign in "}]":
-            return "%s does not close the %s of line %d: write %s before it, or in its place" % (sign, opening, line, close)
+            return "%s does not close the %s of line %d: write %s before it, or in its place" % (
+                sign, opening, line, close)
         if sign == ";":
             return "a comma belongs here, and no ;"
         return "a comma is missing here, before %s" % self.shown()
@@ -324,7 +325,8 @@ class Reader:
             return self.at, "a tab stands in this text: write \\t for it"
         if sign and sign not in "\r\n":
             return self.at, "a control character stands in this text: write \\u%04x for it" % ord(sign)
-        return node.start, "this text is not closed in its line: add a double quote, or write \\n for a line break in it"
+        return node.start, ("this text is not closed in its line: add a double quote, or write \\n for a line break in "
+                            "it")
 
 
 def read(text, what="a scenario"):

@@ -207,7 +207,8 @@ def looked_up(host, port, seconds):
 
 def word_of(error, otherwise, late):
     """How a connection failed, in a word."""
-    kinds = [(TimeoutError, late), (socket.timeout, late), (ssl.SSLCertVerificationError, "certificate"), (ssl.SSLError, "no-tls"),
+    kinds = [(TimeoutError, late), (socket.timeout, late), (ssl.SSLCertVerificationError, "certificate"),
+             (ssl.SSLError, "no-tls"),
              (socket.gaierror, "unknown-name"), (ValueError, "unknown-name")]
     return next((word for kind, word in kinds if isinstance(error, kind)), otherwise)
 

@@ -57,7 +57,8 @@ class Result(Event):
     def short(self):
         """As a test names it."""
         if self.is_refused():
-            return " ".join(filter(None, ["type-error" if self.is_fault else "", str(self.number), self.name, self.detail]))
+            first = "type-error" if self.is_fault else ""
+            return " ".join(filter(None, [first, str(self.number), self.name, self.detail]))
         return self.type if self.type == "loaded" else "%s %d" % (self.type, self.status)
 
 
@@ -237,7 +238,8 @@ def header_of(event, name):
 
 
 def is_preflight(event):
-    return event.kind == "send" and event.method == "OPTIONS" and header_of(event, "Access-Control-Request-Method") is not None
+    is_options = event.kind == "send" and event.method == "OPTIONS"
+    return is_options and header_of(event, "Access-Control-Request-Method") is not None
 
 
 def read(text):

@@ -48,7 +48,7 @@ class Refusal:
                 *("  " + line for line in ["place: " + self.place, *self.more])]
 
     def data(self):
-        return {"line": self.line, "column": self.column, "place": self.place, "sentence": self.sentence, "more": self.more}
+        return {name: getattr(self, name) for name in ("line", "column", "place", "sentence", "more")}
 
 
 def of_fault(text, fault):
@@ -212,7 +212,8 @@ def other_word(problem, schema):
         return "%s is no format: write 1, or 2" % told
     if meant is not None:
         return "%s is none of the words that may stand here: write %s" % (told, shown(meant))
-    return "%s is none of the words that may stand here: write one of %s" % (told, ", ".join(map(shown, texts or problem.wanted)))
+    listed = ", ".join(map(shown, texts or problem.wanted))
+    return "%s is none of the words that may stand here: write one of %s" % (told, listed)
 
 
 def other_number(problem, schema):
@@ -277,7 +278,8 @@ def advice_on_origin(value, problem):
         return "an origin here is of http or https: write %s" % shown("https://" + host.lower() + (port or ""))
     right = scheme.lower() + "://" + host.lower() + ("" if port in (None, ":", default) else port)
     wrong = [text for text, holds in [
-        ("the %s at its end" % rest, rest), ("its user name", user), ("the port that its scheme has anyhow", port == default),
+        ("the %s at its end" % rest, rest), ("its user name", user),
+        ("the port that its scheme has anyhow", port == default),
         ("capital letters", (scheme + host).lower() != scheme + host)] if holds]
     return "an origin is written without %s: write %s" % (" and ".join(wrong) or "this", shown(right))
 
@@ -290,7 +292,8 @@ def advice_on_host(value):
 
 def advice_on_header(value, part):
     if part == 0:
-        return "a header's name has no blank, colon or line end: write %s" % shown(re.sub(r"[^!#$%&'*+\-.^_`|~0-9A-Za-z]", "", value) or "X-A")
+        name = re.sub(r"[^!#$%&'*+\-.^_`|~0-9A-Za-z]", "", value)
+        return "a header's name has no blank, colon or line end: write %s" % shown(name or "X-A")
     return "a header's value has no blank at its ends, and no line end or zero byte: write %s" % shown(
         re.sub(r"[\r\n\0]+", " ", value).strip(" \t"))
 
@@ -302,7 +305,8 @@ def advice_on_template(value, problem):
 
 def advice_on_url(value):
     if re.match(r"[A-Za-z][A-Za-z0-9+.-]*:", value):
-        return "a document's URL is of http or https: write %s" % shown(re.sub(r"^[A-Za-z0-9+.-]+:/*", "https://", value))
+        url = re.sub(r"^[A-Za-z0-9+.-]+:/*", "https://", value)
+        return "a document's URL is of http or https: write %s" % shown(url)
     return "a document's URL is a whole one: write %s" % shown(
         "https://" + value.lstrip("/") if re.match(r"/*[a-z0-9-]+\.", value) else "https://a.test/" + value.lstrip("/"))
 

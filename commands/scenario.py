@@ -4,7 +4,8 @@ import re
 from urllib.parse import urljoin, urlsplit
 
 MOST_COMMANDS = 16384
-FETCH = {"method": "GET", "mode": "cors", "credentials": "same-origin", "redirect": "follow", "headers": [], "body": None,
+FETCH = {"method": "GET", "mode": "cors", "credentials": "same-origin", "redirect": "follow", "headers": [],
+         "body": None,
          "integrity": ""}
 TEMPLATE = re.compile(r"\$\{(status|type|url|body|header:([^}]*))\}")
 DEFAULT_PORTS = {"http": 80, "https": 443}
@@ -58,7 +59,8 @@ def load_options(given):
     attribute = given.get("crossorigin")
     cors = attribute is not None or given["kind"] in ("font", "manifest")
     include = attribute == "use-credentials" or not cors
-    return {**FETCH, "mode": "cors" if cors else "no-cors", "credentials": "include" if include else "same-origin", **given}
+    mode, credentials = "cors" if cors else "no-cors", "include" if include else "same-origin"
+    return {**FETCH, "mode": mode, "credentials": credentials, **given}
 
 
 def filled(text, last):

@@ -176,7 +176,8 @@ class Check:
         for one in self.schema.linked(form):
             if node.kind == "object" and any(key.value in one.get("required", []) for key, _ in node.members):
                 return True
-            first = one["const"][:1] if "const" in one else [part.get("const") for part in one.get("prefixItems", [])[:1]]
+            parts = one.get("prefixItems", [])[:1]
+            first = one["const"][:1] if "const" in one else [part.get("const") for part in parts]
             if node.kind == "list" and node.items and first and is_equal(node.items[0], first[0]):
                 return True
             if node.kind not in ("object", "list") and one.get("type") and is_of_type(node, one["type"]):

@@ -10,8 +10,8 @@ OF_HEADERS = re.compile("(?:-H|--header=)(.+)", re.DOTALL)
 # A URL with nothing before it, or right behind what is no place for one.
 WHOLE_URL = re.compile(r"\s*(?:https?|wss?)://|.*[\w*/+]https?://", re.I)
 # Headers whose values have no URL in such a place.
-WITHOUT_URLS = re.compile(r"accept(?:-\w+)?|authorization|cache-control|connection|content-(?:length|type)|if-.*|pragma|"
-                          r"priority|range|sec-.*|te|dnt", re.I)
+WITHOUT_URLS = re.compile(r"accept(?:-\w+)?|authorization|cache-control|connection|content-(?:length|type)|dnt|if-.*|"
+                          r"pragma|priority|range|sec-.*|te", re.I)
 WITH_A_VALUE = ("-d", "--data", "--data-raw", "--data-binary", "--data-ascii", "--data-urlencode", "-b", "--cookie",
                 "-A", "--user-agent", "-u", "--user")
 CMD = "copied for cmd: copy as cURL (bash)"

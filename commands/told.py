@@ -92,7 +92,8 @@ def case_data(case):
     result = case.result
     return {
         "document": case.fetch.document.number, case.fetch.name.split()[0]: case.fetch.number,
-        "line": case.fetch.line, "url": case.command.url, "verdict": case.verdict, "result": result.short(), "type": result.type,
+        "line": case.fetch.line, "url": case.command.url, "verdict": case.verdict, "result": result.short(),
+        "type": result.type,
         "status": result.status, "headers": result.headers,
         "body": None if result.body is None else result.body.decode("utf-8", "replace"),
         "requests": [request_data(request, answer) for request, answer in case.exchanges],

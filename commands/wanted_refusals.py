@@ -54,7 +54,8 @@ def gap_of(case):
     if not (case.has_no_rule and case.result.is_refused() and case.result.number in BY_NO_RULE):
         return ""
     request = case.request
-    return f"the scenario's server {request.origin} has no rule for {request.method} {request.target}; {case.nearest_rule}"
+    asked = f"{request.method} {request.target}"
+    return f"the scenario's server {request.origin} has no rule for {asked}; {case.nearest_rule}"
 
 
 def to_fill(case):
