@@ -7,7 +7,7 @@ from urllib.parse import urlsplit
 
 import fiorrudda
 
-from commands import answers, exports, json_text, lints, live, pasted, play_text, told, verdicts
+from commands import answers, exports, json_text, lints, live, pasted, play_text, stray_words, told, verdicts
 from commands.ask_words import Wrong
 from commands.case import LOCAL, SOCKETS
 from commands.scenario import Scenario, joined, origin_of
@@ -33,7 +33,8 @@ def book_of(path):
 
 def refuse_others(given):
     """Refuses words that say nothing of what is asked for: an element that loads has its own method and mode."""
-    others = {"--method": given.method or given.head, "--header": given.header or given.user, "--data": given.bodies,
+    others = {"--method": given.method or given.head, "--header": given.header or given.user,
+              "--data": given.bodies, "--form": given.forms,
               "--mode": given.mode, "--credentials": given.credentials, "--redirect": given.redirect}
     for word, value in others.items() if given.load else [("--crossorigin", given.crossorigin)]:
         if value:
@@ -59,6 +60,9 @@ class Question:
         refuse_others(given)
         self.said = pasted.Said(given, url)
         self.url, self.body = self.said.url, self.said.body
+        fault = stray_words.of_host(self.url)
+        if fault:
+            raise Wrong(fault)
         self.page = self.said.page or self.url
         origin_of_page(given, self.page)
         # That of the URL, where it is an http or https one: a cookie is kept for it.

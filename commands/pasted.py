@@ -194,8 +194,9 @@ def pairs_of(given, body):
     if given.user is not None:
         secret = base64.b64encode(given.user.encode("utf-8", "surrogateescape")).decode("ascii")
         pairs.append(("Authorization", "Basic " + secret))
-    if given.is_curl and body is not None and not any(name.lower() == "content-type" for name, _ in pairs):
-        pairs.append(("Content-Type", "application/x-www-form-urlencoded"))  # as curl does
+    kind = given.body_type or ("application/x-www-form-urlencoded" if given.is_curl else None)
+    if kind and body is not None and not any(name.lower() == "content-type" for name, _ in pairs):
+        pairs.append(("Content-Type", kind))  # as curl does
     return pairs
 
 

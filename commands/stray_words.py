@@ -1,7 +1,23 @@
 """Words of bin/ask that came apart between a browser and the shell: headers whose quotes are missing, are no quotes of
 a shell, or stand twice. They are refused before anything is asked, and what may be a secret is not said again."""
+import difflib
 import re
 
+# What stands here for words that people take from elsewhere.
+MEANT = {
+    **dict.fromkeys(("--origin", "--page", "-from"), "write --from PAGE"), "--csp": "write --policy",
+    **dict.fromkeys(("--body", "--post-data"), "write --data"), "--post": "write --method POST",
+    **dict.fromkeys(("--with-credentials", "--withcredentials"), "write --credentials include"),
+    **dict.fromkeys(("-x", "--proxy"), "no proxy is asked; leave it out"),
+    **dict.fromkeys(("-e", "--cert", "--key"), "no certificate of a client is shown; leave it out"),
+    "--cacert": "name the authority before the command, by SSL_CERT_FILE=FILE",
+    "--oauth2-bearer": "write -H 'Authorization: Bearer ..'", "--url-query": "write it into the URL",
+    **dict.fromkeys(("-t", "--upload-file"), "write --method PUT --data-binary @FILE"),
+}
+# The beginning of a URL that is likely a host, and ends of the names of files.
+HOST_FIRST = re.compile(r"(?:[\w-]+\.)+([a-z]{2,})(?=(/)|[?#]|$)", re.I | re.A)
+FILES = set("js mjs css json html htm xml txt md csv png jpg jpeg gif svg webp avif ico woff woff2 ttf otf mp3 mp4 webm ogg "
+            "wav pdf zip gz wasm map php asp aspx jsp cgi webmanifest".split())
 CURLY = re.compile("[\u2018\u2019\u201a\u201c\u201d\u201e]")
 SCHEME = re.compile(r"\s*[A-Za-z][A-Za-z0-9+.\-]*:(?!\d)")  # and no host with its port
 PATH = re.compile(r"/|(?:[\w\-]+\.)*[\w\-]+(?::\d+)?/")  # of a URL whose beginning is missing
@@ -15,6 +31,7 @@ WITHOUT_URLS = re.compile(r"accept(?:-\w+)?|authorization|cache-control|connecti
 WITH_A_VALUE = ("-d", "--data", "--data-raw", "--data-binary", "--data-ascii", "--data-urlencode", "-b", "--cookie",
                 "-A", "--user-agent", "-u", "--user")
 CMD = "copied for cmd: copy as cURL (bash)"
+METHODS = ("GET", "HEAD", "POST", "PUT", "PATCH", "DELETE", "OPTIONS")
 BLANK = "a word is a blank: take the blank behind the \\ at a line's end away"
 OWN_WORD = ": is a quote or a blank missing before the URL? One that is to be asked is a word of its own"
 WHOLE = "write it whole, as https://api.example/x"
@@ -47,10 +64,44 @@ def of_curly(word):
     return "\u201c and \u201d are no quotes of a shell: write \""
 
 
-def of_urls(words, urls, is_curl):
-    """What is wrong in the words that stand as URLs, or None. `words` are all words as they came."""
+def of_dashes(words, known):
+    """What is to be said of a long word that has one dash alone, or None."""
+    word = next((one for one in words if len(one) > 4 and one[:1] == "-" != one[1:2] and "-" + one in known), None)
+    return "`%s` has one dash: write -%s" % (word, word) if word else None
+
+
+def of_host(url):
+    """What is wrong in a URL that begins with a host, and would be a path of the page; None where it does not."""
+    found = HOST_FIRST.match(url)
+    if found is None or found.group(1).lower() in FILES and not found.group(2):
+        return None
+    return "`%s` has no scheme: write https://%s; what is a path of the page begins with / or ./" % (
+        found.group(), found.group())
+
+
+def of_unknown(unknown, known):
+    """What is to be said of words that are none here, by those that are; None where there is no unknown one. What
+    stands behind them may be a secret."""
+    word = next((one.partition("=")[0] for one in unknown if one.startswith("-")), None)
+    if word is None:
+        return "a word is too much: name each URL once" if unknown else None
+    meant = MEANT.get(word.lower())
+    if meant is None:
+        near = difflib.get_close_matches("--" + word.lstrip("-"), known, 1, 0.8)
+        meant = "write %s" % near[0] if near else "--help lists them"
+    return "`%s` is no word here: %s" % (word, meant)
+
+
+def of_copy(urls):
+    """What is wrong in what was copied from a browser for something else than bash, or None."""
     if any(url.strip().startswith("^") for url in urls):
         return CMD
+    is_other = urls and re.match(r"(?:await )?fetch\(|Invoke-WebRequest$|\$session", urls[0])
+    return "copied for another program: copy as cURL (bash)" if is_other else None
+
+
+def of_urls(words, urls, is_curl):
+    """What is wrong in the words that stand as URLs, or None. `words` are all words as they came."""
     curly = next((url for url in urls if CURLY.match(url) or CURLY.search(url[-1:])), None)
     if curly is not None:
         return of_curly(curly)
@@ -69,6 +120,12 @@ def of_urls(words, urls, is_curl):
 
 
 def of_no_url(url, before, header, is_among_others):
+    if url in ("-4", "-6"):
+        return "`%s` is no word here: leave it out" % url
+    if url.upper() in METHODS:
+        return "`%s` is no URL: write --method %s" % (url, url.upper())
+    if before == "--json":
+        return "--json prints JSON here, and takes no value: write -H 'Content-Type: application/json' --data '{..}'"
     if header is not None:
         name = header.partition(":")[0].strip()
         if url.lower() in KINDS_OF_SECRETS:
