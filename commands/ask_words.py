@@ -174,7 +174,7 @@ def read(self, words):
     fault = stray_words.of_dashes(words, known)
     if fault:
         parser.error(fault)
-    given, unknown = parser.parse_known_intermixed_args(words)
+    given, unknown = parser.parse_known_intermixed_args(stray_words.with_values(words, known))
     given.is_curl = given.urls[:1] == ["curl"]
     given.urls = given.urls[given.is_curl:] + given.url
     given.glued = stray_words.glued(words)

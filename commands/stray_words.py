@@ -64,6 +64,16 @@ def of_curly(word):
     return "\u201c and \u201d are no quotes of a shell: write \""
 
 
+def with_values(words, known):
+    """The words, where a value that begins with a dash, as a body may, is joined to the word that takes it."""
+    found, ahead = [], iter(words)
+    for word in ahead:
+        value = next(ahead, None) if word in WITH_A_VALUE else None
+        is_text = value is not None and len(value) > 1 and value[0] == "-" and value not in known
+        found += [word + ("=" if word[1] == "-" else "") + value] if is_text else [word, value]
+    return [word for word in found if word is not None]
+
+
 def of_dashes(words, known):
     """What is to be said of a long word that has one dash alone, or None."""
     word = next((one for one in words if len(one) > 4 and one[:1] == "-" != one[1:2] and "-" + one in known), None)
