@@ -5,19 +5,19 @@ import json
 import os
 import re
 
-from commands import (asking, edits, findings, json_text, known_hosts, lints, notes, play_text, policy_questions,
-                      refusals, results, running, streams, verdicts, wanted_refusals, wanted_requests)
+from commands import (asking, doubts, edits, findings, json_text, known_hosts, lints, notes, play_text, policy_questions,
+                      refusals, results, running, streams, test_words, verdicts, wanted_refusals, wanted_requests)
 from commands.asking import Wrong
 from commands.case import CAUSES
 from commands.explanations import NOTHING, TABLE, explain, lines_of
 from commands.schema import Schema
+from commands.test_words import KEY
 
 SCHEMA = os.path.join(running.ROOT, "schema", "expect.schema.json")
 WAYS = [way.name for way in TABLE]
 OTHERS = ("sent", "never sent", *policy_questions.KEYS)  # the keys of `expect` that name no fetch
 MOST_UNNAMED = 20  # lines
 ONLY_STRICT = "all came as expected; --strict alone makes it `not ok`, for these warnings:"
-KEY = re.compile(r"(?:document ([0-9]{1,3}) )?(fetch|load) ([0-9]{1,4})")
 DIRECTIVES = ["connect-src", "img-src", "media-src", "font-src", "manifest-src", "style-src-elem", "script-src-elem"]
 # As a play prints it behind the word violation, as far as a test says it.
 VIOLATION = re.compile(r"(?:([0-9]{1,2}) )?(?:(enforce|report) )?(\S+)(?: (\S+))?")
@@ -64,9 +64,15 @@ def check(text, root):
     if problems and root.kind == "object" and root.member("documents") and not root.member("expect"):
         raise Wrong(refusals.Refusal(text, root.start, "/", "this is a scenario, and no test: bin/why plays it; a test "
                                      'has the keys "scenario" and "expect"'))
+    stray = next((key for key, _ in (root.members if root.kind == "object" else []) if KEY.fullmatch(key.value)), None)
+    if stray is not None:
+        raise Wrong(refusals.Refusal(text, stray.start, "/" + stray.value, 'the key "%s" belongs in "expect": '
+                                     'write {"scenario": .., "expect": {"%s": ..}}' % (stray.value, stray.value)))
     if problems:
         first = min(problems, key=lambda problem: problem.kind == "missing")  # that may be a misspelt one
         raise Wrong(refusals.of_problem(text, first, schema))
+    for at, sentence in doubts.double_keys(root.member("expect")):
+        raise Wrong(refusals.Refusal(text, at, "/expect", sentence.replace("the last one counts", "take one out")))
     for key, value in root.member("expect").members:
         for node, place, sentence in wrongs(key, value):
             raise Wrong(refusals.Refusal(text, node.start, "/expect/" + place, sentence))
@@ -80,9 +86,9 @@ def wrongs(key, value):
         yield from of_requests(value, key.value)
     else:
         if not KEY.fullmatch(key.value):
-            others = ", ".join('"%s"' % one for one in OTHERS)
-            yield key, key.value, (f'the key "{key.value}" names no fetch: write "fetch 0", "load 2", "document 1 fetch '
-                                   f'0", or one of {others}')
+            any_of_them = '"fetch 0", "load 2", "document 1 fetch 0", or one of ' + ", ".join(map(json.dumps, OTHERS))
+            meant = test_words.key_meant(key.value, OTHERS) or any_of_them
+            yield key, key.value, f'the key "{key.value}" names no fetch: write {meant}'
         yield from of_outcome(key.value, value)
 
 
@@ -102,6 +108,8 @@ def of_requests(value, place):
 
 
 def of_outcome(place, value):
+    def result_problem(wanted):
+        return test_words.result_problem(wanted, "load" if "load" in place else "fetch", WAYS)
     if value.kind == "string":
         yield from of_items(value, place, result_problem)
     elif not value.members:
@@ -114,15 +122,6 @@ def of_outcome(place, value):
                 yield from of_items(value.member(name), "%s/%s" % (place, name), problem)
         if value.member("sent") is not None:
             yield from of_requests(value.member("sent"), place + "/sent")
-
-
-def result_problem(wanted):
-    word = results.unknown_word(results.negated(wanted)[1])
-    if word is None:
-        return None
-    meant = refusals.nearest(word, results.WORDS)
-    return 'no result has the word "%s": write %s' % (
-        word, '"%s"' % meant if meant else "read, refused, a result as it is printed, or not and one of these")
 
 
 def way_problem(wanted):
@@ -276,6 +275,8 @@ def empty(expect, told):
     """A line for each fetch or load that comes as a test wants it, and that says nothing of the server or the policy
     which is tested: the scenario lacks the rule, or this engine never loads the URL."""
     cases, are_many = cases_of(told), len(told.play.documents) > 1
+    if not expect:
+        yield "warning: the test expects nothing, so that it is always met"
     for key, wanted in expect.items():
         case = cases.get(fetch_of(key))
         if case is not None:

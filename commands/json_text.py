@@ -20,7 +20,7 @@ ONE_CHARACTER = re.compile(r"\\u[dD][89abAB][0-9a-fA-F]{2}\\u[dD][c-fC-F][0-9a-f
 SHORT = {"b": "\b", "f": "\f", "n": "\n", "r": "\r", "t": "\t"}
 CURLY = "\u201c\u201d\u201e\u201f\u00ab\u00bb"
 SINGLE = "'`\u2018\u2019"
-EXAMPLE = '{"format": 1, "documents": []}'
+EXAMPLES = {"a scenario": '{"format": 1, "documents": []}', "a test": '{"scenario": "scenario.json", "expect": {}}'}
 
 
 class Fault(Exception):
@@ -126,7 +126,7 @@ class Reader:
 
     def whole(self, what):
         if not self.sign():
-            raise Fault(0, "the file is empty: %s is an object, such as %s" % (what, EXAMPLE))
+            raise Fault(0, "the file is empty: %s is an object, such as %s" % (what, EXAMPLES[what]))
         root = self.value()
         if self.sign() == ",":
             raise Fault(self.at, "%s ends before this comma: take out what follows" % what)

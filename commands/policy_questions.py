@@ -4,7 +4,7 @@ servers that let every page read."""
 import json
 import re
 
-from commands import asking, csp, findings
+from commands import asking, csp, findings, stray_words
 from commands.case import LOCAL, SOCKETS
 from commands.explanations import explain, explain_policies, lines_of
 from commands.refusals import nearest
@@ -15,6 +15,11 @@ KEYS = ("allowed", "blocked", "reported", "violating", "not violating")
 KEPT_OUT = ("blocked", "reported", "violating")
 LET_IN = ("allowed", "not violating")
 KINDS = ("fetch", "image", "audio", "video", "style", "script", "font", "manifest")
+# What people call what loads a URL, and what no directive is asked about.
+MEANT = {**dict.fromkeys(("ajax", "connect", "connect-src", "eventsource", "websocket", "xhr"), "fetch"),
+         **dict.fromkeys(("css", "stylesheet"), "style"), "js": "script", "picture": "image", "img-src": "image"}
+UNASKED = ("base", "embed", "form", "form-action", "frame", "frame-src", "iframe", "navigation", "object", "worker")
+WORDS = ("inline", "eval", "none", "self", "unsafe-eval", "unsafe-inline")  # no URLs
 ITEM = re.compile(r"(?:document ([0-9]{1,3}) )?(\S+) (\S.*)", re.S)
 EXAMPLE = '"script https://cdn.example/app.js"'
 # An origin whose server a scenario takes as it is written here: of a host that is no address and needs no coding.
@@ -45,10 +50,16 @@ def problem(text):
         return 'write what loads the URL before it, as in %s: one of %s' % (EXAMPLE, ", ".join(KINDS))
     _, kind, url = found.groups()
     if kind not in KINDS:
-        meant = nearest(kind, KINDS)
+        if kind.lower() in UNASKED:
+            return "no directive is asked here about what is loaded as %s, but about %s" % (kind, ", ".join(KINDS))
+        meant = MEANT.get(kind.lower()) or nearest(kind, KINDS)
         return 'nothing is loaded as "%s": write %s' % (kind, '"%s"' % meant if meant else "one of " + ", ".join(KINDS))
     if re.search(r"\s", url):
         return "a URL has no blanks: write %20 for one, and each URL in a text of its own"
+    if url.strip("'").lower() in WORDS or url[0] in "'*":
+        return "%s is a word of a policy, and no URL: write one, as in %s" % (url, EXAMPLE)
+    if stray_words.of_host(url):
+        return stray_words.of_host(url)
     scheme = scheme_of(url) if re.match(r"[A-Za-z][A-Za-z0-9+.-]*:", url) else ""
     if scheme in SOCKETS and kind != "fetch":
         return 'a WebSocket is asked for by a script: write "fetch %s"' % url

@@ -20,7 +20,10 @@ ONLY_THE_PROGRAM = [
 FAMILIAR = {"uri": "url", "href": "url", "src": "url", "type": "kind", "withcredentials": "credentials",
             "sleep": "wait", "delay": "wait", "times": "repeat", "loop": "repeat", "data": "body", "code": "status",
             "status_code": "status", "verb": "method", "target": "path", "response": "rules", "commands": "script",
-            "steps": "script", "pages": "documents", "version": "format", "cookie": "cookies", "host": "origin"}
+            "steps": "script", "pages": "documents", "version": "format", "cookie": "cookies", "host": "origin",
+            # of a test
+            "status": "result", "error": "result", "comes": "result", "headers": "sees", "visible": "sees",
+            "requests": "sent", "way": "why", "reason": "why"}
 OWNERS = {"server": "a server", "rule": "a rule of a server", "fetch": "the fetch", "load": "the load",
           "document1": "a document", "document2": "a document", "format1": "the scenario", "format2": "the scenario",
           "host": "a known host"}
@@ -192,6 +195,9 @@ def change_to_object(node, problem):
     if node.kind == "string" and problem.path and problem.path[-1] in ("fetch", "load"):
         kind = '"kind": "image", ' if problem.path[-1] == "load" else ""
         return 'write {%s"url": %s}' % (kind, shown(node.value))
+    if node.kind == "list" and problem.path[-1:] in (["sees"], ["has"]):
+        names = [one.value for one in node.items if isinstance(one.value, str)] or ["X-Total"]
+        return "write {%s}" % ", ".join("%s: true" % shown(name) for name in names)[:200]
     if node.kind == "list" and len(node.items) == 1:
         return "take the brackets away"
     return "write its keys and values between { and }"
@@ -237,6 +243,10 @@ def other_form(problem, schema):
         return "this is no value of a header: write it as a text, or true where any will do"
     if problem.is_of("request") or problem.is_of("sent"):
         return 'this is no request: write "PUT /x", or {"request": "PUT /x", "has": {"Cookie": true}}'
+    if problem.path[-1:] == ["upgraded"]:
+        return "these are no URLs: write one, a list of them, or [] where there is no upgrade"
+    if problem.is_of("urls"):
+        return 'these are no URLs: write each behind what loads it, such as "script https://cdn.example/app.js"'
     if problem.is_of("outcome"):
         return 'this is none of the forms that may stand here: write a result in words, or {"result": "read"}'
     commands = [key for key in keys if key in ("fetch", "load", "wait", "repeat", "if")]
@@ -257,6 +267,8 @@ def other_text(problem, schema):
     for name, advice in ADVICE.items():
         if problem.is_of(name):
             return advice(value, problem)
+    if value == "" and path[:1] == ["expect"]:
+        return "this text is empty: write what is meant, or leave its key out"
     if path[-1] in ("url", "top"):
         return advice_on_url(value)
     if path[-1] == "host":
