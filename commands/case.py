@@ -326,7 +326,7 @@ class Case:
     def needs(self):
         """What CORS wants of the answers at the URL of the last request."""
         is_asked = is_preflight(self.request)
-        names = [name for name in self.asked_headers.split(",") if name] if is_asked else []
+        names = [name for name in self.asked_names if name not in self.stray_names] if is_asked else []
         return Needs(self.asked_url, self.origin, self.includes, self.method, names,
                      self.head if is_asked else None, self.own_head, is_asked, self.varies)
 
@@ -1107,6 +1107,16 @@ class Case:
     @property
     def asked_headers(self):
         return header_of(self.request, "Access-Control-Request-Headers") or ""
+
+    @property
+    def asked_names(self):
+        """The names of the request's headers that a preflight asks for."""
+        return [name for name in self.asked_headers.split(",") if name]
+
+    @property
+    def stray_names(self):
+        """Those of them that are headers of answers, and do nothing in a request but ask for a preflight."""
+        return [name for name in self.asked_names if name.startswith("access-control-")]
 
     @property
     def why_status(self):

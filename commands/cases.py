@@ -88,6 +88,7 @@ PREFLIGHTS = {
     "preflight/method-in-another-case": scenario(fetch(method="patch"), allow(["Access-Control-Allow-Methods", "PATCH"])),
     "preflight/method-not-listed": scenario(fetch(**PUT), allow(["Access-Control-Allow-Methods", "GET, POST"])),
     "preflight/authorization-under-star": scenario(fetch(**SECRET), allow(["Access-Control-Allow-Headers", "*"])),
+    "preflight/header-of-answers": scenario(fetch(headers=[["Access-Control-Allow-Origin", "*"]]), allow()),
     "preflight/user-agent": scenario(fetch(headers=[["User-Agent", "curl/8.9"]]), allow()),
     "preflight/header-absent": scenario(fetch(**NAMED), allow()),
     "preflight/header-star-with-credentials": scenario(fetch(**NAMED, **INCLUDE), allow(TRUE, ["Access-Control-Allow-Headers", "*"])),

@@ -3,7 +3,7 @@ them take time in proportion to the scenario and its play, however many rules, k
 from collections import namedtuple
 from urllib.parse import urlsplit
 
-from commands import lints, verdicts
+from commands import lints, stray_words, verdicts
 from commands.urls import host_of, is_trustworthy
 
 METHODS = ("DELETE", "GET", "HEAD", "OPTIONS", "POST", "PUT")
@@ -36,6 +36,7 @@ def of_scenario(scenario, play, is_net):
         found += rules_without_use(scenario)
         found += servers_without_use(scenario)
     if play is not None:
+        found += hosts_as_paths(scenario, play)
         found += origins_without_server(scenario, play, is_net)
         found += cookies_elsewhere(scenario, play)
         if not is_net:
@@ -177,6 +178,14 @@ def origins_without_server(scenario, play, is_net):
                 name = verdicts.name_of(fetch, len(play.documents) > 1)
                 yield place_of(scenario, fetch), "%s asks %s, and no %s is of this origin%s" % (
                     name, request.origin, what, more)
+
+
+def hosts_as_paths(scenario, play):
+    """URLs without a scheme that begin with a host: they are paths of the page."""
+    for fetch in play.fetches():
+        sentence = stray_words.of_host(fetch.command.options["url"])
+        if sentence:
+            yield place_of(scenario, fetch), sentence
 
 
 def place_of(scenario, fetch):

@@ -225,6 +225,8 @@ def of_one_request(edit):
         return "leave the integrity text out"
     if edit["set"] == "parser":
         return "let a script insert the element"
+    if edit.get("gone"):
+        return "leave %s out of the request: answers have it" % listed("`%s`" % name for name in edit["gone"])
     if edit["set"] == "headers":
         lines = listed("`%s: %s`" % tuple(pair) for pair in edit["value"]) if edit["value"] else "no header"
         return "let the script set " + lines

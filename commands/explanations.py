@@ -131,6 +131,9 @@ PREFLIGHTS = [
         lambda c: c.result.detail == "authorization" and "*" in c.names and not c.includes,
         "`*` in Access-Control-Allow-Headers does not cover Authorization", ALLOW_HEADERS,
         "list it by its name: {change}", PREFLIGHT, changes.cors),
+    Way("preflight/header-of-answers", "11", lambda c: c.result.detail in c.stray_names,
+        "the script sets {c.result.detail}, which is a header of answers and does nothing in a request, but that a "
+        "preflight asks for it", ALLOW_HEADERS, "{change}", PREFLIGHT, changes.cors),
     Way("preflight/user-agent", "11", lambda c: c.result.detail == "user-agent",
         "the script sets User-Agent, as a command line of curl does, and the answer to the preflight does not list it; browsers "
         "send their own", ALLOW_HEADERS, "{change}", PREFLIGHT, changes.without_user_agent),

@@ -16,8 +16,8 @@ MEANT = {
 }
 # The beginning of a URL that is likely a host, and ends of the names of files.
 HOST_FIRST = re.compile(r"(?:[\w-]+\.)+([a-z]{2,})(?=(/)|[?#]|$)", re.I | re.A)
-FILES = set("js mjs css json html htm xml txt md csv png jpg jpeg gif svg webp avif ico woff woff2 ttf otf mp3 mp4 webm ogg "
-            "wav pdf zip gz wasm map php asp aspx jsp cgi webmanifest".split())
+FILES = set("js mjs css json html htm xml txt md csv png jpg jpeg gif svg webp avif ico woff woff2 ttf otf mp3 mp4 webm "
+            "ogg wav pdf zip gz wasm map php asp aspx jsp cgi webmanifest".split())
 CURLY = re.compile("[\u2018\u2019\u201a\u201c\u201d\u201e]")
 SCHEME = re.compile(r"\s*[A-Za-z][A-Za-z0-9+.\-]*:(?!\d)")  # and no host with its port
 PATH = re.compile(r"/|(?:[\w\-]+\.)*[\w\-]+(?::\d+)?/")  # of a URL whose beginning is missing

@@ -1,4 +1,5 @@
-"""What is surely meant by the words of a test that are none: keys of `expect`, results, and requests as they are sent."""
+"""What is surely meant by the words of a test that are none: keys of `expect`, results, and requests as they are
+sent."""
 import difflib
 import json
 import re
@@ -52,8 +53,8 @@ def result_problem(wanted, kind, ways):
         other = " ".join(one for one in words if one not in ALONE) or words[0]
         return '"%s" says two things at once: write %s%s"' % (rest, before, other)
     if words[0] in NOT_OF[kind]:
-        return 'no %s comes to "%s": write %s%s"' % (kind, words[0], before, "refused" if words[0] in ("failed", "error")
-                                                   else "read")
+        other = "refused" if words[0] in ("failed", "error") else "read"
+        return 'no %s comes to "%s": write %s%s"' % (kind, words[0], before, other)
     return number_problem(words, before)
 
 
