@@ -131,7 +131,9 @@ def unknown_key(problem, schema):
     if problem.is_of("with_headers"):
         return 'the key "%s" is unknown here: a request stands so, {"request": "PUT /x", "has": {"Cookie": true}}' % (
             problem.name)
-    owner = next((OWNERS[one["is"]] for one in schema.owners(problem.name) if one["is"] in OWNERS), None)
+    owners = [OWNERS[one["is"]] for one in schema.owners(problem.name) if one["is"] in OWNERS]
+    is_of_server = problem.path[:1] == ["servers"] and OWNERS["rule"] in owners
+    owner = OWNERS["rule"] if is_of_server else next(iter(owners), None)
     if problem.name == "body_limit" or problem.name == "top":
         return 'the key "%s" is of format 2: write "format": 2' % problem.name
     if owner is not None:
@@ -195,6 +197,9 @@ def change_to_object(node, problem):
     if node.kind == "string" and problem.path and problem.path[-1] in ("fetch", "load"):
         kind = '"kind": "image", ' if problem.path[-1] == "load" else ""
         return 'write {%s"url": %s}' % (kind, shown(node.value))
+    if node.kind == "string" and problem.path[:1] == ["hsts"]:
+        host = re.sub(r"^[a-z]+://|[/:].*$", "", str(node.value).lower())
+        return 'write {"host": %s, "subdomains": true, "until": 31536000}' % shown(host)
     if node.kind == "list" and problem.path[-1:] in (["sees"], ["has"]):
         names = [one.value for one in node.items if isinstance(one.value, str)] or ["X-Total"]
         return "write {%s}" % ", ".join("%s: true" % shown(name) for name in names)[:200]
@@ -214,6 +219,9 @@ def other_word(problem, schema):
     told = given.text or GIVEN[given.kind]
     texts = [one for one in problem.wanted if isinstance(one, str) and one]
     meant = nearest(given.value, texts) if given.kind == "string" and texts else None
+    if problem.path[-1:] == ["credentials"] and given.value in (True, False):
+        return '%s is none of the words that may stand here: write %s' % (
+            told, '"include"' if given.value else '"omit"')
     if problem.path and problem.path[-1] == "format":
         return "%s is no format: write 1, or 2" % told
     if meant is not None:
@@ -316,6 +324,10 @@ def advice_on_template(value, problem):
 
 
 def advice_on_url(value):
+    host = re.match(r"(localhost|[\w.-]*\.[\w.-]*|\[[\da-f:]+\]):\d", value, re.I)
+    if host:  # where a scheme stands else
+        scheme = "http://" if re.match(r"localhost|[\d.]+$|\[", host.group(1), re.I) else "https://"
+        return "the scheme is missing in this URL: write %s" % shown(scheme + value)
     if re.match(r"[A-Za-z][A-Za-z0-9+.-]*:", value):
         url = re.sub(r"^[A-Za-z0-9+.-]+:/*", "https://", value)
         return "a document's URL is of http or https: write %s" % shown(url)
