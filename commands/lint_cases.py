@@ -272,6 +272,7 @@ HSTS_MEANT = [
     ("max-age='600'; includesubdomains", "max-age=600; includeSubDomains"),
     ("max-age=600; includeSubDomains=true", "max-age=600; includeSubDomains"),
     ("max-age=600; includeSubdomain", "max-age=600; includeSubDomains"),
+    ("max-age=600; subdomains", "max-age=600; includeSubDomains"),
     ("maxage=600; include-subdomains", "max-age=600; includeSubDomains"),
     ("max_age=600", "max-age=600"), ("max-age 600", "max-age=600"), ('"max-age"=600', "max-age=600"),
     ("'max-age=600'", "max-age=600"), ("'includeSubDomains; max-age=600'", "max-age=600; includeSubDomains"),
@@ -290,6 +291,12 @@ HSTS_MEANT = [
     ("max-age=600; max-age=1y; includeSubDomains", "max-age=600; includeSubDomains",
      "max-age=31536000; includeSubDomains"),
     ("includeSubDomains; includeSubDomains; max-age=600", "max-age=600; includeSubDomains"),
+]
+# Headers that are spelt otherwise, and what is said to write.
+SPELT = [
+    (answer(["Allow-Origin", "*"]), "write `Access-Control-Allow-Origin`"),
+    (answer(["X-Expose-Headers", "*"]), "write `Access-Control-Expose-Headers`"),
+    (page([REFERRER, "same origin"]), "write `same-origin`"), (page([REFERRER, "no referrer"]), "write `no-referrer`"),
 ]
 # The same of what is not ignored, and is not taken into the list of preloaded hosts (a year, and all subdomains).
 HSTS_PRELOADED = {
@@ -445,7 +452,7 @@ MENDED = {
     "img-src a.test; b.test; img-src c.test; font-scr 'self": "img-src a.test b.test c.test; font-src 'self'",
     "img-src='self'; font-src:https://f.test": "img-src 'self'; font-src https://f.test",
     "img-src (self); font-src %27none%27; media-src all": "img-src 'self'; font-src 'none'; media-src *",
-    "connect-src ws//a.test //b.test https://u:p@c.test /api ./d": "connect-src ws://a.test https://b.test "
+    "connect-src ws//a.test //b.test https://u:p@c.test /api ./d": "connect-src wss://a.test https://b.test "
                                                                 "https://c.test https://shop.test/api https://shop.test/d",
     "script-src 'wasm-eval' inline; img-src mediastream": "script-src 'wasm-unsafe-eval' 'unsafe-inline'; "
                                                           "img-src mediastream:",
