@@ -313,7 +313,9 @@ class Case:
     def nearest_rule(self):
         """A sentence on the rules that the server has."""
         told = self.scenario.told_rules(self.answer.server)
-        return "its rules are for " + ", ".join(told) if told else "it has no rules"
+        is_twice = self.request.origin in self.scenario.origins_twice
+        return ("its rules are for " + ", ".join(told) if told else "it has no rules") + (
+            ", and another server of this origin, which is never asked, stands behind it" if is_twice else "")
 
     @property
     def or_path(self):

@@ -159,6 +159,11 @@ class Scenario:
             found.setdefault(one["origin"], index)
         return found
 
+    @functools.cached_property
+    def origins_twice(self):
+        """The origins of which a server stands behind the first one."""
+        return {one["origin"] for index, one in enumerate(self.servers()) if self.server_of(one["origin"]) != index}
+
     def server_like(self, origin):
         """The number of an origin's server; where it has none that of the other scheme, else of another one of its
         host, or None."""
