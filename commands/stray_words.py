@@ -81,7 +81,14 @@ def of_dashes(words, known):
 
 
 def of_host(url):
-    """What is wrong in a URL that begins with a host, and would be a path of the page; None where it does not."""
+    """What is wrong in a URL that begins with a host, and would be a path of the page, or that has a quote around it;
+    None where nothing is."""
+    quoted = re.fullmatch(r"(?:[\"'`<](https?://.*?)[\"'`>]?|(https?://[^\"'`<>]*)[\"'`>])", url, re.I)
+    if quoted:
+        return "a quote or a bracket stands around %s: take it away" % (quoted.group(1) or quoted.group(2))
+    scheme = re.match(r"(https?|wss?)//:?(?=[\w-]+\.|localhost\b)", url, re.I)
+    if scheme:
+        return "`%s` is no beginning of a URL: write %s://" % (scheme.group(), scheme.group(1))
     found = HOST_FIRST.match(url)
     if found is None or found.group(1).lower() in FILES and not found.group(2):
         return None
