@@ -31,7 +31,7 @@ def of_finding(at, finding):
 
 def of_scenario(scenario, play, is_net):
     """Pairs of a place and a sentence."""
-    found = [*double_keys(scenario.root), *pages_of_known_hosts(scenario)]
+    found = [*double_keys(scenario.root), *pages_of_known_hosts(scenario), *attributes_of_cookies(scenario)]
     if not is_net:
         found += rules_without_use(scenario)
         found += servers_without_use(scenario)
@@ -191,6 +191,15 @@ def hosts_as_paths(scenario, play):
 def place_of(scenario, fetch):
     node = scenario.root.at(fetch.command.path)
     return (node.member("url") or node).start
+
+
+def attributes_of_cookies(scenario):
+    """Cookies as Set-Cookie has them, with what browsers keep to themselves."""
+    node = scenario.root.member("cookies")
+    for index, (_, value) in enumerate(scenario.data.get("cookies", [])):
+        sentence = stray_words.of_cookies(value)
+        if sentence:
+            yield node.items[index].start, sentence
 
 
 def cookies_elsewhere(scenario, play):

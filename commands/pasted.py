@@ -7,7 +7,7 @@ import fiorrudda
 from commands import guards
 from commands.ask_words import KINDS, Wrong
 from commands.scenario import joined, origin_of
-from commands.stray_words import OWN_WORD
+from commands.stray_words import OWN_WORD, of_cookies
 
 OWN = "a browser sends its own"
 CACHE = "a browser's cache adds it"
@@ -171,6 +171,8 @@ class Said:
         if copied:
             self.note("`Cookie` is taken as --cookie")
         self.cookies = [*given.cookie, *given.pasted, *copied]
+        for note in filter(None, map(of_cookies, self.cookies)):
+            self.note(note)
         self.credentials = given.credentials
         went_along = copied or given.pasted or given.is_curl and given.cookie
         if went_along and self.is_foreign() and not self.load and self.credentials is None:

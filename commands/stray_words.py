@@ -18,6 +18,7 @@ MEANT = {
 HOST_FIRST = re.compile(r"(?:[\w-]+\.)+([a-z]{2,})(?=(/)|[?#]|$)", re.I | re.A)
 FILES = set("js mjs css json html htm xml txt md csv png jpg jpeg gif svg webp avif ico woff woff2 ttf otf mp3 mp4 webm "
             "ogg wav pdf zip gz wasm map php asp aspx jsp cgi webmanifest".split())
+ATTRIBUTES = ("domain", "expires", "httponly", "max-age", "partitioned", "path", "samesite", "secure")
 CURLY = re.compile("[\u2018\u2019\u201a\u201c\u201d\u201e]")
 SCHEME = re.compile(r"\s*[A-Za-z][A-Za-z0-9+.\-]*:(?!\d)")  # and no host with its port
 PATH = re.compile(r"/|(?:[\w\-]+\.)*[\w\-]+(?::\d+)?/")  # of a URL whose beginning is missing
@@ -94,6 +95,13 @@ def of_host(url):
         return None
     return "`%s` has no scheme: write https://%s; what is a path of the page begins with / or ./" % (
         found.group(), found.group())
+
+
+def of_cookies(value):
+    """What is to be said of attributes of Set-Cookie among the cookies that are sent, or None."""
+    names = [part.partition("=")[0].strip() for part in value.split(";")[1:]]
+    found = [name for name in names if name.lower() in ATTRIBUTES]
+    return "`%s` is an attribute of Set-Cookie, and is sent as a cookie here: leave it out" % found[0] if found else None
 
 
 def of_unknown(unknown, known):
