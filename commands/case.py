@@ -329,8 +329,9 @@ class Case:
         """What CORS wants of the answers at the URL of the last request."""
         is_asked = is_preflight(self.request)
         names = [name for name in self.asked_names if name not in self.stray_names] if is_asked else []
+        is_sure = is_asked and (self.has_listener or not self.stray_names)
         return Needs(self.asked_url, self.origin, self.includes, self.method, names,
-                     self.head if is_asked else None, self.own_head, is_asked, self.varies)
+                     self.head if is_asked else None, self.own_head, is_sure, self.varies)
 
     @property
     def lacking_behind(self):

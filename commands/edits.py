@@ -226,7 +226,9 @@ def of_one_request(edit):
     if edit["set"] == "parser":
         return "let a script insert the element"
     if edit.get("gone"):
-        return "leave %s out of the request: answers have it" % listed("`%s`" % name for name in edit["gone"])
+        names = ["`%s`" % name for name in edit["gone"]]
+        return "leave %s, %s, out of the request" % (
+            listed(names), "a header of answers" if len(names) == 1 else "headers of answers")
     if edit["set"] == "headers":
         lines = listed("`%s: %s`" % tuple(pair) for pair in edit["value"]) if edit["value"] else "no header"
         return "let the script set " + lines

@@ -70,7 +70,9 @@ def check(text, root):
                                      'write {"scenario": .., "expect": {"%s": ..}}' % (stray.value, stray.value)))
     if problems:
         first = min(problems, key=lambda problem: problem.kind == "missing")  # that may be a misspelt one
-        raise Wrong(refusals.of_problem(text, first, schema))
+        refusal = refusals.of_problem(text, first, schema)
+        refusal.more += refusals.also(text, [one for one in problems if one is not first], [first], schema)
+        raise Wrong(refusal)
     for at, sentence in doubts.double_keys(root.member("expect")):
         raise Wrong(refusals.Refusal(text, at, "/expect", sentence.replace("the last one counts", "take one out")))
     for key, value in root.member("expect").members:

@@ -31,6 +31,9 @@ TYPES = {"object": "an object", "array": "a list", "string": "a text", "integer"
 GIVEN = {"object": "an object", "list": "a list", "string": "a text"}
 
 
+MOST_ALSO = 5  # problems besides the first that are told
+
+
 class Refusal:
     """One line that says what to change, with its place; `more` are lines behind it."""
 
@@ -66,6 +69,7 @@ def of_place(text, root, place, schema):
     if near:
         refusal = of_problem(text, near[0], schema)
         refusal.place = place
+        refusal.more += also(text, [one for one in problems if one not in near], near, schema)
         return refusal
     sentence = next((sentence for form, sentence in ONLY_THE_PROGRAM if re.search(form, place)), "this is refused here")
     return Refusal(text, node.start, place, sentence)
@@ -74,6 +78,14 @@ def of_place(text, root, place, schema):
 def of_problem(text, problem, schema):
     sentence = SENTENCES[problem.kind](problem, schema)
     return Refusal(text, problem.node.start, problem.place, sentence, more_of(problem))
+
+
+def also(text, others, told, schema):
+    """Lines for the other problems, each once, so that all can be mended at once: without keys that are missing where
+    one is unknown, which may be a misspelt one."""
+    is_misspelt = any(one.kind == "unknown" for one in [*told, *others])
+    own = [of_problem(text, one, schema) for one in others if one.kind != "missing" or not is_misspelt][:MOST_ALSO]
+    return list(dict.fromkeys("also %d:%d: %s" % (one.line, one.column, one.sentence) for one in own))
 
 
 def is_near(one, other):
