@@ -310,6 +310,12 @@ class Case:
         return self.answer is not None and self.answer.server is not None and self.answer.rule is None
 
     @property
+    def is_host_as_path(self):
+        """Whether the page's own server is asked, since the URL begins with a host and lacks its scheme."""
+        from commands import stray_words  # where no server answers
+        return self.request.origin == self.page_origin and stray_words.of_host(self.command.url) is not None
+
+    @property
     def nearest_rule(self):
         """A sentence on the rules that the server has."""
         told = self.scenario.told_rules(self.answer.server)
@@ -605,6 +611,12 @@ class Case:
         return is_address(host_of(self.policy_url)) and origin_of(self.policy_url) != self.page_origin
 
     @property
+    def is_policy_loopback(self):
+        """Whether it is 127.0.0.1, and a word names that."""
+        is_asked = self.is_policy_address and host_of(self.policy_url) == "127.0.0.1"
+        return is_asked and any(csp.place_of(word) == "127.0.0.1" for word in self.directive[1])
+
+    @property
     def policy_asked(self):
         return self.asked_of(self.violated)
 
@@ -615,7 +627,8 @@ class Case:
 
     def near_in(self, words):
         near = csp.near(words, self.policy_asked) or csp.Near("", "", "")
-        return near._replace(written=re.sub("^http:", "https:", near.written)) if self.is_secure else near
+        is_upgraded = self.is_secure and not is_trustworthy(self.policy_url)
+        return near._replace(written=re.sub("^http:", "https:", near.written)) if is_upgraded else near
 
     @property
     def near_fault(self):

@@ -367,9 +367,16 @@ def rewrite(c):
 
 
 def secure_or_rewrite(c):
-    is_plain = scheme_of(c.policy_url) == "http" and not c.violated.redirected
+    is_of_machine = is_trustworthy(c.policy_url)
+    is_plain = scheme_of(c.policy_url) == "http" and not c.violated.redirected and not is_of_machine
     asked = [lead_to(secure(c.policy_url), c)] if is_plain else []
-    return asked + ([] if c.is_secure else rewrite(c))
+    return asked + ([] if c.is_secure and not is_of_machine else rewrite(c))
+
+
+def with_https(c):
+    """The URL with the scheme that it lacks."""
+    url = "https://" + c.command.url.strip()
+    return [[edits.request("url", url), *missing_server(c, url)]]
 
 
 def before_upgrade(c):

@@ -388,7 +388,10 @@ def of_fetch(key, wanted, cases, passing, sent):
     case = cases.get(fetch_of(key))
     if case is None:
         has = ", ".join(name for _, name in list(cases)[:20]) or "none"
-        yield "%s: there is none; the play has %s" % (key, has)
+        number = key.rpartition(" ")[2]
+        is_other = any(name.endswith(" " + number) for _, name in cases)
+        yield "%s: there is none; the play has %s%s" % (
+            key, has, ": fetches and loads are counted together" if is_other else "")
         return
     wanted = as_object(wanted)
     found = list(of_case(case, wanted))

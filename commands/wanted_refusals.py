@@ -9,6 +9,7 @@ from commands.play_text import header_of, is_preflight
 
 POLICIES = ("4", "19")
 BY_NO_RULE = (7, 12, 22)  # what an empty answer without CORS headers comes to, where the scenario has no rule
+NO_SERVER = ("head/no-server", "head/host-as-path")
 UNANSWERED = ("link/hang", "link/reset", "link/tls-port", "head/nothing", "head/tls")
 GOES_ON = "; many servers send back whatever Origin they get"
 
@@ -43,7 +44,7 @@ def untold(case):
     if way in UNANSWERED:
         unanswered = "no server has answered" if is_first else "the last request was not answered"
         return unanswered if case.is_net else ""
-    if way.startswith("link/") or way == "head/no-server":
+    if way.startswith("link/") or way in NO_SERVER:
         return "no server was asked" if is_first else "the last request came to no server"
     return "no rule has answered" if gap_of(case) else ""
 
@@ -61,7 +62,9 @@ def gap_of(case):
 def to_fill(case):
     """What to add to the scenario that lacks a rule or a server, or what the test says where that is meant."""
     asked, way = case.request, case.explanation.way
-    if way == "head/no-server":
+    if way == "head/host-as-path":
+        missing = case.explanation.change
+    elif way == "head/no-server":
         missing = f"add a server of {asked.origin}, with rules that answer as the real one does"
     elif gap_of(case):
         rule = json.dumps({"method": asked.method, "path": asked.target, "status": 404})
