@@ -7,7 +7,7 @@ from urllib.parse import urlsplit
 
 import fiorrudda
 
-from commands import answers, exports, json_text, lints, live, pasted, play_text, stray_words, told, verdicts
+from commands import answers, exports, json_text, lints, live, pasted, play_text, slips, told, verdicts
 from commands.ask_words import Wrong
 from commands.case import LOCAL, SOCKETS
 from commands.scenario import Scenario, joined, origin_of
@@ -60,7 +60,7 @@ class Question:
         refuse_others(given)
         self.said = pasted.Said(given, url)
         self.url, self.body = self.said.url, self.said.body
-        fault = stray_words.of_host(self.url)
+        fault = slips.of_url(self.url)
         if fault:
             raise Wrong(fault)
         self.page = self.said.page or self.url

@@ -312,8 +312,8 @@ class Case:
     @property
     def is_host_as_path(self):
         """Whether the page's own server is asked, since the URL begins with a host and lacks its scheme."""
-        from commands import stray_words  # where no server answers
-        return self.request.origin == self.page_origin and stray_words.of_host(self.command.url) is not None
+        from commands import slips  # where no server answers
+        return self.request.origin == self.page_origin and slips.of_url(self.command.url) is not None
 
     @property
     def nearest_rule(self):

@@ -3,7 +3,7 @@ them take time in proportion to the scenario and its play, however many rules, k
 from collections import namedtuple
 from urllib.parse import urlsplit
 
-from commands import lints, stray_words, verdicts
+from commands import lints, slips, verdicts
 from commands.urls import host_of, is_trustworthy
 
 METHODS = ("DELETE", "GET", "HEAD", "OPTIONS", "POST", "PUT")
@@ -183,7 +183,7 @@ def origins_without_server(scenario, play, is_net):
 def hosts_as_paths(scenario, play):
     """URLs without a scheme that begin with a host: they are paths of the page."""
     for fetch in play.fetches():
-        sentence = stray_words.of_host(fetch.command.options["url"])
+        sentence = slips.of_url(fetch.command.options["url"])
         if sentence:
             yield place_of(scenario, fetch), sentence
 
@@ -197,7 +197,7 @@ def attributes_of_cookies(scenario):
     """Cookies as Set-Cookie has them, with what browsers keep to themselves."""
     node = scenario.root.member("cookies")
     for index, (_, value) in enumerate(scenario.data.get("cookies", [])):
-        sentence = stray_words.of_cookies(value)
+        sentence = slips.of_cookies(value)
         if sentence:
             yield node.items[index].start, sentence
 

@@ -7,7 +7,8 @@ import fiorrudda
 from commands import guards
 from commands.ask_words import KINDS, Wrong
 from commands.scenario import joined, origin_of
-from commands.stray_words import OWN_WORD, of_cookies
+from commands.slips import of_cookies
+from commands.stray_words import OWN_WORD
 
 OWN = "a browser sends its own"
 CACHE = "a browser's cache adds it"

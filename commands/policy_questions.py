@@ -4,7 +4,7 @@ servers that let every page read."""
 import json
 import re
 
-from commands import asking, csp, findings, stray_words
+from commands import asking, csp, findings, slips
 from commands.case import LOCAL, SOCKETS
 from commands.explanations import explain, explain_policies, lines_of
 from commands.refusals import nearest
@@ -58,8 +58,8 @@ def problem(text):
         return "a URL has no blanks: write %20 for one, and each URL in a text of its own"
     if url.strip("'").lower() in WORDS or url[0] in "'*":
         return "%s is a word of a policy, and no URL: write one, as in %s" % (url, EXAMPLE)
-    if stray_words.of_host(url):
-        return stray_words.of_host(url)
+    if slips.of_url(url):
+        return slips.of_url(url)
     scheme = scheme_of(url) if re.match(r"[A-Za-z][A-Za-z0-9+.-]*:", url) else ""
     if scheme in SOCKETS and kind != "fetch":
         return 'a WebSocket is asked for by a script: write "fetch %s"' % url

@@ -1,5 +1,6 @@
-"""Words of bin/ask that came apart between a browser and the shell: headers whose quotes are missing, are no quotes of
-a shell, or stand twice. They are refused before anything is asked, and what may be a secret is not said again."""
+"""Words of bin/ask that are none, or that came apart between a browser and the shell: headers whose quotes are
+missing, are no quotes of a shell, or stand twice. They are refused before anything is asked, and what may be a secret
+is not said again."""
 import difflib
 import re
 
@@ -14,11 +15,6 @@ MEANT = {
     "--oauth2-bearer": "write -H 'Authorization: Bearer ..'", "--url-query": "write it into the URL",
     **dict.fromkeys(("-t", "--upload-file"), "write --method PUT --data-binary @FILE"),
 }
-# The beginning of a URL that is likely a host, and ends of the names of files.
-HOST_FIRST = re.compile(r"(?:[\w-]+\.)+([a-z]{2,})(?=(/)|[?#]|$)", re.I | re.A)
-FILES = set("js mjs css json html htm xml txt md csv png jpg jpeg gif svg webp avif ico woff woff2 ttf otf mp3 mp4 webm "
-            "ogg wav pdf zip gz wasm map php asp aspx jsp cgi webmanifest".split())
-ATTRIBUTES = ("domain", "expires", "httponly", "max-age", "partitioned", "path", "samesite", "secure")
 CURLY = re.compile("[\u2018\u2019\u201a\u201c\u201d\u201e]")
 SCHEME = re.compile(r"\s*[A-Za-z][A-Za-z0-9+.\-]*:(?!\d)")  # and no host with its port
 PATH = re.compile(r"/|(?:[\w\-]+\.)*[\w\-]+(?::\d+)?/")  # of a URL whose beginning is missing
@@ -79,29 +75,6 @@ def of_dashes(words, known):
     """What is to be said of a long word that has one dash alone, or None."""
     word = next((one for one in words if len(one) > 4 and one[:1] == "-" != one[1:2] and "-" + one in known), None)
     return "`%s` has one dash: write -%s" % (word, word) if word else None
-
-
-def of_host(url):
-    """What is wrong in a URL that begins with a host, and would be a path of the page, or that has a quote around it;
-    None where nothing is."""
-    quoted = re.fullmatch(r"(?:[\"'`<](https?://.*?)[\"'`>]?|(https?://[^\"'`<>]*)[\"'`>])", url, re.I)
-    if quoted:
-        return "a quote or a bracket stands around %s: take it away" % (quoted.group(1) or quoted.group(2))
-    scheme = re.match(r"(https?|wss?)//:?(?=[\w-]+\.|localhost\b)", url, re.I)
-    if scheme:
-        return "`%s` is no beginning of a URL: write %s://" % (scheme.group(), scheme.group(1))
-    found = HOST_FIRST.match(url)
-    if found is None or found.group(1).lower() in FILES and not found.group(2):
-        return None
-    return "`%s` has no scheme: write https://%s; what is a path of the page begins with / or ./" % (
-        found.group(), found.group())
-
-
-def of_cookies(value):
-    """What is to be said of attributes of Set-Cookie among the cookies that are sent, or None."""
-    names = [part.partition("=")[0].strip() for part in value.split(";")[1:]]
-    found = [name for name in names if name.lower() in ATTRIBUTES]
-    return "`%s` is an attribute of Set-Cookie, and is sent as a cookie here: leave it out" % found[0] if found else None
 
 
 def of_unknown(unknown, known):
