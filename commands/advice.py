@@ -7,8 +7,8 @@ from commands.play_text import is_preflight
 from commands.scenario import origin_of
 from commands.urls import secure, without_user_info
 
-# The order of a fetch's steps at one URL of its chain: faults of the request, what is looked at before anything is sent,
-# the preflight, the answer. A `p` stands before what fails at the connection of the preflight.
+# The order of a fetch's steps at one URL of its chain: faults of the request, what is looked at before anything is
+# sent, the preflight, the answer. A `p` stands before what fails at the connection of the preflight.
 STEPS = (["f%d" % number for number in range(1, 10)] + ["1", "2", "3", "4", "5", "6"] + ["p24", "p25", "p26"]
          + ["7", "8", "9", "10", "11"] + ["24", "25", "26"] + ["12", "13"] + ["14", "15", "16", "17", "18"])
 # What comes at the end of a chain; what a script sees of less than all comes before that it sees all.
@@ -74,8 +74,8 @@ def step_of_response(case):
 
 
 def rank(case, first=0):
-    """Where it ended, as a pair that grows: the place of the URL in the chain, and the step there. `first` is the place of
-    the first URL in the chain of an earlier play."""
+    """Where it ended, as a pair that grows: the place of the URL in the chain, and the step there. `first` is the place
+    of the first URL in the chain of an earlier play."""
     step = step_of(case)
     return (LAST, ENDS.index(step)) if step in ENDS else (first + len(case.hops) - 1, STEPS.index(step))
 

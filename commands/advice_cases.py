@@ -1,7 +1,7 @@
-"""Scenarios whose advice commands/check_advice follows to the end, beside those of cases.py: mistakes that stand together,
-what a server sends already, chains of redirects, and policies as people write them."""
-from commands.cases import (API, DIGEST, INCLUDE, NAMED, OK, PAGE, POLICY, PUT, SECRET, TRUE, allow, answered, fetch, load,
-                            policed, raw, rule, scenario)
+"""Scenarios whose advice commands/check_advice follows to the end, beside those of cases.py: mistakes that stand
+together, what a server sends already, chains of redirects, and policies as people write them."""
+from commands.cases import (API, DIGEST, INCLUDE, NAMED, OK, PAGE, POLICY, PUT, SECRET, TRUE, allow, answered, fetch,
+                            load, policed, raw, rule, scenario)
 
 JSON = {"method": "PUT", "headers": [["Content-Type", "application/json"], ["Authorization", "Bearer a"]], "body": "{}"}
 ALLOW = "Access-Control-Allow-"
@@ -90,7 +90,8 @@ PREFLIGHTS = {
     "a bad list of a POST": scenario(fetch(**NAMED, method="POST", body="a"), allow(methods("GET;POST"), names("X-A"))),
     "an origin with a slash, JSON and credentials": scenario(
         fetch(**JSON, **INCLUDE), [asked(204, [ALLOW + "Origin", PAGE + "/"]), rule()]),
-    "credentials in capitals": scenario(fetch(**PUT, **INCLUDE), [asked(204, OK, [ALLOW + "Credentials", "TRUE"]), rule()]),
+    "credentials in capitals": scenario(fetch(**PUT, **INCLUDE), [
+        asked(204, OK, [ALLOW + "Credentials", "TRUE"]), rule()]),
     "a preflight before headers that are not exposed": scenario(
         fetch(**PUT), [asked(404), rule(200, [["X-Total", "4"], ["Date", "now"], ["ETag", '"1"'], ["Expires", "0"]])]),
     "a preflight before a header that is asked for": scenario(
@@ -105,7 +106,8 @@ CORS = {
     "a script with use-credentials": scenario(script(crossorigin="use-credentials"), [rule(200, [STAR])]),
     "credentials that are not allowed": scenario(load("image", crossorigin="use-credentials"), [rule(200, [OK])]),
     "bytes with the header twice": raw("HTTP/1.1 200 OK\r\n%s: *\r\n%s: *\r\n\r\nhi" % (STAR[0], STAR[0])),
-    "exposed names of others": answered(OK, exposed("x-page, X-PAGE"), ["X-Total", "4"], ["X-Page", "1"], ["X-Rest", "2"]),
+    "exposed names of others": answered(OK, exposed("x-page, X-PAGE"), ["X-Total", "4"], ["X-Page", "1"],
+                                        ["X-Rest", "2"]),
     "an exposed star, credentials and a name": answered(
         OK, TRUE, exposed("*, X-Page"), ["X-Total", "4"], ["X-Page", "1"], **INCLUDE),
     "a refused answer with headers": answered(exposed("X-Page"), ["X-Total", "4"], ["X-Page", "1"]),
@@ -168,7 +170,8 @@ POLICIES = {
     "strict-dynamic and an integrity text": policed(
         "script-src 'strict-dynamic' 'nonce-a'", script(integrity=SCRIPT, crossorigin="anonymous"), **CODE),
     "a hash of another text": policed(
-        "script-src '%s'" % SCRIPT, script(integrity=SCRIPT, crossorigin="anonymous"), **at(API, rule(200, [STAR], "abd"))),
+        "script-src '%s'" % SCRIPT, script(integrity=SCRIPT, crossorigin="anonymous"),
+        **at(API, rule(200, [STAR], "abd"))),
     "a script of default-src": policed("default-src 'self' 'nonce-n1'", script()),
     "a path with its slash": policed("connect-src https://api.test/v1/", fetch(API + "/v1")),
     "another path": policed("connect-src https://api.test/v1/", fetch(API + "/v2/x")),
@@ -183,9 +186,11 @@ POLICIES = {
     "an upgraded image of an address": policed("img-src 'self'" + UPGRADE, load("image", "http://203.0.113.7/i.png")),
     "a page of an address": policed("connect-src https://cdn.test", fetch("/x"), page="http://192.0.2.7:8000/"),
     "three policies": scenario(
-        fetch(), headers=[[POLICY, "default-src 'self', connect-src 'none'"], [POLICY, "connect-src https://cdn.test"]]),
+        fetch(), headers=[[POLICY, "default-src 'self', connect-src 'none'"],
+                          [POLICY, "connect-src https://cdn.test"]]),
     "two policies, and one that reports": scenario(
-        fetch(), headers=[[POLICY, "connect-src 'self'"], [REPORT, "default-src 'none'"], [POLICY, "default-src " + CDN]]),
+        fetch(), headers=[[POLICY, "connect-src 'self'"], [REPORT, "default-src 'none'"],
+                          [POLICY, "default-src " + CDN]]),
     "a report of what is read": reported("connect-src 'self'", fetch(), **at(API, rule(200, [OK]))),
     "a report of what is upgraded": reported(
         "img-src https://img.test", load("image", "http://img.test/i.png"), **at(IMAGES, rule())),
@@ -193,8 +198,10 @@ POLICIES = {
         "img-src 'self'", load("image", "http://img.test/i.png"), **at(IMAGES, rule())),
     "a report of what is upgraded, without quotes": reported(
         "img-src self", load("image", "http://img.test/i.png"), **at(IMAGES, rule())),
-    "two nonces": scenario(script(nonce="a"), headers=[[POLICY, "script-src 'nonce-a'"], [POLICY, "script-src 'nonce-b'"]]),
-    "two nonces, and none": scenario(script(), headers=[[POLICY, "script-src 'nonce-a'"], [POLICY, "script-src 'nonce-b'"]]),
+    "two nonces": scenario(script(nonce="a"), headers=[
+        [POLICY, "script-src 'nonce-a'"], [POLICY, "script-src 'nonce-b'"]]),
+    "two nonces, and none": scenario(script(), headers=[
+        [POLICY, "script-src 'nonce-a'"], [POLICY, "script-src 'nonce-b'"]]),
     "a report of mixed content": reported("connect-src 'self'", fetch("http://api.test/x")),
     "a report behind a redirect": reported("connect-src 'self'", fetch("/go"), servers=[
         {"origin": PAGE, "rules": [led(API + "/x")]}, {"origin": API, "rules": [rule(200, [OK])]}]),

@@ -57,8 +57,8 @@ class Head:
 
 
 class Answer:
-    """What came for one request. Of a scripted server `server` and `rule` are numbers, or None where there is none; over a
-    network `link` says how the connection went: done, or a word of relay.py."""
+    """What came for one request. Of a scripted server `server` and `rule` are numbers, or None where there is none;
+    over a network `link` says how the connection went: done, or a word of relay.py."""
 
     def __init__(self, data, server=None, rule=None, link=None):
         self.data = data
@@ -223,15 +223,16 @@ def bytes_of(scenario, server, index):
 def data_of(rule):
     if "raw" in rule:
         return rule["raw"].encode("utf-8", "surrogatepass")
-    lines = ["HTTP/1.1 %d Scripted" % rule["status"]] + ["%s: %s" % (name, value) for name, value in rule.get("headers", [])]
+    lines = ["HTTP/1.1 %d Scripted" % rule["status"]]
+    lines += ["%s: %s" % (name, value) for name, value in rule.get("headers", [])]
     return ("\r\n".join(lines) + "\r\n\r\n" + rule.get("body", "")).encode("utf-8", "surrogatepass")
 
 
 # ---- heads
 
 class Beginning:
-    """The first bytes of an answer, up to those that decide whether it has a head: `head` is the final one, `problem` says
-    in a word why there is none, and neither is there before."""
+    """The first bytes of an answer, up to those that decide whether it has a head: `head` is the final one, `problem`
+    says in a word why there is none, and neither is there before."""
 
     def __init__(self):
         self.data = bytearray()

@@ -3,14 +3,19 @@ import argparse
 import re
 from urllib.parse import quote
 
-from commands import names, stray_words, streams
+from commands import forms, names, stray_words, streams
 
 KINDS = list(names.LOADS)
 POLICIES = sorted(name for name in names.REFERRER_POLICIES if name)
 # Words of curl that change nothing: redirects are followed, and what they print is printed, or is decoded, anyhow.
 WITHOUT_EFFECT = [("-i", "--include"), ("-s", "--silent"), ("-S", "--show-error"), ("-v", "--verbose"),
-                  ("-L", "--location"), ("-g", "--globoff"), ("--compressed",), ("--http1.0",), ("--http1.1",),
-                  ("--http2",), ("--http3",)]
+                  ("-L", "--location"), ("-g", "--globoff"), ("-f", "--fail"), ("-N", "--no-buffer"),
+                  ("-O", "--remote-name"), ("-#", "--progress-bar"), ("--basic",), ("--compressed",),
+                  ("--fail-with-body",), ("--http1.0",), ("--http1.1",), ("--http2",), ("--http2-prior-knowledge",),
+                  ("--http3",), ("--no-progress-meter",), ("--path-as-is",), ("--tlsv1.2",), ("--tlsv1.3",)]
+# The same, with a value.
+VALUES_WITHOUT_EFFECT = [("-o", "--output"), ("-w", "--write-out"), ("-c", "--cookie-jar"), ("-D", "--dump-header"),
+                         ("--connect-timeout",), ("--retry",)]
 BODIES = [
     (("-d", "--data", "--data-ascii"), "data", "TEXT|@FILE",
      "the request's body, or its file; @- is standard input; several are joined by &"),
@@ -42,6 +47,21 @@ def connection(word):
     if max(int(port), int(otherwise)) > 65535:
         raise argparse.ArgumentTypeError("a port is at most 65535")
     return (host.strip("[]"), int(port)), (other.strip("[]"), int(otherwise))
+
+
+def resolution(word):
+    """The same of the word of curl that names an address alone."""
+    found = re.fullmatch(r"\+?([^:]+):(\d{1,5}):(\[[^\]]+\]|[^:,]+)", word)
+    if not found:
+        raise argparse.ArgumentTypeError("write it as HOST:PORT:ADDRESS")
+    return connection("%s:%s:%s:%s" % (*found.groups(), found.group(2)))
+
+
+def form_part(word):
+    fault = forms.problem(word)
+    if fault:
+        raise argparse.ArgumentTypeError(fault)
+    return word
 
 
 def known_host(word):
@@ -91,6 +111,8 @@ def of_request(given):
     for words, kind, form, told in BODIES:
         given.add_argument(*words, dest="bodies", metavar=form, action="append", default=[], help=told,
                            type=lambda text, kind=kind: (kind, text))
+    given.add_argument("-F", "--form", dest="forms", metavar="N=V|N=@FILE", action="append", type=form_part, default=[],
+                       help="a part of a form, which makes the body multipart/form-data")
     given.add_argument("--credentials", choices=list(names.CREDENTIALS))
     given.add_argument("--mode", choices=[mode for mode in names.MODES if mode != "navigate"])
     given.add_argument("--redirect", choices=list(names.REDIRECTS))
@@ -104,8 +126,8 @@ def of_request(given):
 def of_curl(given):
     given = given.add_argument_group(
         "words of curl",
-        "a command that a browser copies as cURL is taken as it is, with the word curl or without; what a page could not "
-        "send is left out, and noted; -i, -s, -S, -v, -L, -g and --compressed change nothing")
+        "a command that a browser copies as cURL is taken as it is, with the word curl or without; what a page could "
+        "not send is left out, and noted; -i, -s, -S, -v, -L, -g, -f, -o and --compressed change nothing")
     given.add_argument("-b", dest="pasted", metavar="'N=V; ..'", action="append", type=pasted_cookies, default=[],
                        help="the cookies that went along")
     given.add_argument("-A", "--user-agent", metavar="TEXT", dest="agent")
@@ -117,16 +139,20 @@ def of_curl(given):
     given.add_argument("--url", metavar="URL", action="append", default=[])
     for words in WITHOUT_EFFECT:
         given.add_argument(*words, dest="without_effect", action="store_true", help=argparse.SUPPRESS)
+    for words in VALUES_WITHOUT_EFFECT:
+        given.add_argument(*words, dest="unused", metavar="VALUE", help=argparse.SUPPRESS)
 
 
 def of_asking(given):
     given = given.add_argument_group("how it is asked, and what is printed")
     given.add_argument("--from-file", metavar="FILE", help="more URLs, one a line; - is standard input")
     given.add_argument("--jobs", metavar="N", type=jobs, default=1, help="URLs side by side (1)")
-    given.add_argument("--timeout", metavar="S", type=streams.seconds, default=20,
+    given.add_argument("--timeout", "-m", "--max-time", metavar="S", type=streams.seconds, default=20,
                        help="seconds for all of it, for each URL (20)")
     given.add_argument("--connect-to", metavar="HOST:PORT:TO:PORT", action="append", type=connection, default=[],
                        help="connect to another address in the place of a host and port")
+    given.add_argument("--resolve", dest="connect_to", metavar="HOST:PORT:ADDRESS", action="append", type=resolution,
+                       help="the same, as curl has it")
     printed = given.add_mutually_exclusive_group()
     printed.add_argument("--brief", action="store_true", help="print the verdict alone")
     printed.add_argument("--json", action="store_true", help="print JSON")
@@ -143,22 +169,40 @@ def read(self, words):
     parser.add_argument("urls", metavar="URL", nargs="*")
     for part in (of_page, of_request, of_curl, of_asking):
         part(parser)
-    given = parser.parse_intermixed_args(words)
+    known = [word for action in parser._actions for word in action.option_strings]
+    fault = stray_words.of_dashes(words, known)
+    if fault:
+        parser.error(fault)
+    given, unknown = parser.parse_known_intermixed_args(stray_words.with_values(words, known))
     given.is_curl = given.urls[:1] == ["curl"]
     given.urls = given.urls[given.is_curl:] + given.url
-    fault = stray_words.of_urls(words, given.urls, given.is_curl)
+    given.glued = stray_words.glued(words)
+    fault = (stray_words.of_copy(given.urls) or stray_words.of_unknown(unknown, known)
+             or stray_words.of_urls(words, given.urls, given.is_curl) or lacking(given))
     if fault:
         parser.error(fault)
     given.connect_to = dict(given.connect_to)
-    if not given.urls and given.from_file is None:
-        parser.error("name a URL")
-    if given.with_secrets and not given.export:
-        parser.error("--with-secrets is for --export")
     try:
-        given.body = body_of(given.bodies)
+        given.body, given.body_type = body_of(given.bodies), None
+        if given.forms:
+            given.body, given.body_type = forms.body_of(given.forms)
     except Wrong as wrong:
         parser.error(str(wrong))
+    except OSError as error:
+        parser.error("--form: %s: %s" % (error.filename, error.strerror))
     return given
+
+
+def lacking(given):
+    """What words lack, or have too much, in a sentence; None where all is well."""
+    if not given.urls and given.from_file is None:
+        return "name a URL" + "".join("; the header `%s` has one as its value%s" % (name, stray_words.OWN_WORD)
+                                      for name in given.glued[:1])
+    if given.with_secrets and not given.export:
+        return "--with-secrets is for --export"
+    if given.forms and (given.bodies or given.get):
+        return "a form is the whole body: leave %s out" % ("--data" if given.bodies else "-G")
+    return None
 
 
 # ---- the body

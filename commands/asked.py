@@ -7,7 +7,7 @@ from urllib.parse import urlsplit
 
 import fiorrudda
 
-from commands import answers, exports, json_text, lints, live, pasted, play_text, told, verdicts
+from commands import answers, exports, json_text, lints, live, pasted, play_text, slips, told, verdicts
 from commands.ask_words import Wrong
 from commands.case import LOCAL, SOCKETS
 from commands.scenario import Scenario, joined, origin_of
@@ -16,7 +16,6 @@ from commands.urls import scheme_of
 LIMIT = 1048576
 KNOWN_FOR = 31536000
 OWN_ORIGIN = "it was asked as from a page of its own origin; --from PAGE asks as another page would"
-PACKAGES = {"br": "Debian's package python3-brotli"}
 
 
 def book_of(path):
@@ -34,7 +33,8 @@ def book_of(path):
 
 def refuse_others(given):
     """Refuses words that say nothing of what is asked for: an element that loads has its own method and mode."""
-    others = {"--method": given.method or given.head, "--header": given.header or given.user, "--data": given.bodies,
+    others = {"--method": given.method or given.head, "--header": given.header or given.user,
+              "--data": given.bodies, "--form": given.forms,
               "--mode": given.mode, "--credentials": given.credentials, "--redirect": given.redirect}
     for word, value in others.items() if given.load else [("--crossorigin", given.crossorigin)]:
         if value:
@@ -60,6 +60,9 @@ class Question:
         refuse_others(given)
         self.said = pasted.Said(given, url)
         self.url, self.body = self.said.url, self.said.body
+        fault = slips.of_url(self.url)
+        if fault:
+            raise Wrong(fault)
         self.page = self.said.page or self.url
         origin_of_page(given, self.page)
         # That of the URL, where it is an http or https one: a cookie is kept for it.
@@ -138,8 +141,8 @@ def domain_of(word):
 
 
 class Answered:
-    """What came of a question: the lines, the exchanges in order, and what is told of them. `play` asks, `tell` tells; each
-    may be ended by the time limit, and leaves what had come."""
+    """What came of a question: the lines, the exchanges in order, and what is told of them. `play` asks, `tell` tells;
+    each may be ended by the time limit, and leaves what had come."""
 
     def __init__(self, question):
         self.question = question
@@ -187,17 +190,14 @@ class Answered:
         if stream.is_opened and not (stream.cut and stream.cut.is_other):
             yield "%s: the body came as %s all the same: it was decoded, as a browser does it%s" % (
                 exchange.origin, ", ".join(stream.codings), "; %s" % stream.cut if stream.cut else "")
-        if stream.lacks and any(case.result.name == "Coding" for case in self.told.cases):
-            packages = list(filter(None, map(PACKAGES.get, stream.lacks)))
-            yield "%s: %s is not decoded here%s" % (
-                exchange.origin, ", ".join(stream.lacks), ": %s does it" % packages[0] if packages else "")
 
     def of_unread(self, case):
         """What is to be said of the body of what an element loads, where nothing here decodes it, or None."""
-        if case.is_spoilt or not (case.answer and case.answer.stream.lacks and case.is_gzip):
+        is_unread = not case.is_spoilt and case.answer is not None and case.answer.stream.lacks
+        if not (is_unread and (case.is_gzip or case.why_coded)):
             return None
-        return "%s: its body was not read: Content-Encoding says %s%s" % (
-            case.request.origin, case.coding, case.but_gzip)
+        return "%s: its body was not read: Content-Encoding says %s%s%s" % (
+            case.request.origin, case.coding, case.but_gzip, case.why_coded.replace("since", "and"))
 
     def of_packed(self, case):
         """What is to be said of a body that begins as gzip does, where no coding is named, or None."""
@@ -212,8 +212,8 @@ class Answered:
         own, page = self.question.origin, self.question.page
         requests = [request for case in self.told.cases for request, _ in case.chain]
         if not requests:
-            only = "only a preflight was sent" if any(case.exchanges for case in self.told.cases) else "nothing was sent"
-            return "no cookie was sent, since " + only
+            is_asked = any(case.exchanges for case in self.told.cases)
+            return "no cookie was sent, since %s was sent" % ("only a preflight" if is_asked else "nothing")
         if any(play_text.header_of(request, "Cookie") for request in requests):
             is_same = fiorrudda.same_site(page, own) and urlsplit(page).scheme == urlsplit(own).scheme
             return None if is_same else (

@@ -27,7 +27,10 @@ def read(data, what="a scenario"):
         return text, json_text.read(text, what)
     except json_text.Fault as fault:
         from commands import refusals
-        raise Wrong(refusals.of_fault(text, fault)) from fault
+        refusal = refusals.of_fault(text, fault)
+        if text.lstrip().startswith("curl "):
+            refusal.sentence = "this is a command of curl, and not %s: bin/ask takes it as it is" % what
+        raise Wrong(refusal) from fault
 
 
 def played(data, is_net=False, patience=20):
@@ -49,6 +52,8 @@ def refused_at(text, root, place):
     from commands.schema import Schema
     if root.kind == "object" and root.member("scenario") and root.member("expect"):
         return refusals.Refusal(text, root.start, place, "this is a test, and no scenario: bin/expect plays it")
+    if root.kind == "object" and root.member("log") and root.member("log").member("entries"):
+        return refusals.Refusal(text, root.start, place, "this is a recording (HAR), and no scenario: bin/har reads it")
     return refusals.of_place(text, root, place, Schema(SCHEMA))
 
 

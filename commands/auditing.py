@@ -137,7 +137,8 @@ def plays(scenario):
 
 def of_calls(document, scenario, text, name):
     given = text.calls().get(document, [])
-    lines = ["Document %d has %d entries of the history, and its run over them makes other calls." % (document, len(given))]
+    lines = ["Document %d has %d entries of the history, and its run over them makes other calls." % (
+        document, len(given))]
     for made in plays(scenario):
         calls = made.calls().get(document, [])
         same = 0
@@ -172,8 +173,8 @@ def of_text(offset, scenario, text, name):
 
 
 def right(scenario, text):
-    """The text that the play with this history has, where plays that are made here tell each document's part: a document
-    does the same where it calls the same and is replied to the same."""
+    """The text that the play with this history has, where plays that are made here tell each document's part: a
+    document does the same where it calls the same and is replied to the same."""
     parts, given = {}, text.calls()
     for made in plays(scenario):
         calls, blocks = made.calls(), made.blocks()

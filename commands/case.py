@@ -1,5 +1,5 @@
-"""What is known of one fetch that was played: the command, the requests with their answers, and the result. The table of
-explanations asks it, and its texts name its parts."""
+"""What is known of one fetch that was played: the command, the requests with their answers, and the result. The table
+of explanations asks it, and its texts name its parts."""
 import base64
 import copy
 import hashlib
@@ -19,6 +19,7 @@ from commands.urls import (comes_from, differences, host_of, is_address, is_trus
                            secure)
 
 ALGORITHMS = ("sha256", "sha384", "sha512")
+DIGEST = re.compile(r"(?:^|\s)(sha256|sha384|sha512)-([A-Za-z0-9+/_-]+={0,2})(?=[\s?]|$)")
 CHUNK_LINE = re.compile(rb"([0-9a-fA-F]{1,16})[^\r\n]*\r\n")
 REDIRECTS = (301, 302, 303, 307, 308)
 MOST_REDIRECTS = 20
@@ -30,8 +31,8 @@ SOCKETS = ("ws", "wss")
 # What made a URL one of https, in words.
 MOST_UNSERVED = 3
 CAUSES = {"hsts": "HSTS", "policy": "upgrade-insecure-requests", "mixed": "mixed content"}
-# A policy that a request violates: its number and disposition, the effective directive, the URL that it was asked of, and
-# whether a redirect led there, or it was that of the response.
+# A policy that a request violates: its number and disposition, the effective directive, the URL that it was asked of,
+# and whether a redirect led there, or it was that of the response.
 Violation = namedtuple("Violation", "policy enforced directive url redirected at_response")
 
 
@@ -60,8 +61,9 @@ class Request:
 
 
 class Case:
-    """`exchanges` are pairs of a request and its answer, in order; the answer is None where it is not known. `is_net` says
-    whether real servers answered, "direct" whether they were asked by their own names, over TLS where the URL says so."""
+    """`exchanges` are pairs of a request and its answer, in order; the answer is None where it is not known. `is_net`
+    says whether real servers answered, "direct" whether they were asked by their own names, over TLS where the URL says
+    so."""
 
     def __init__(self, scenario, fetch, exchanges, is_net=False):
         self.scenario = scenario
@@ -309,10 +311,18 @@ class Case:
         return self.answer is not None and self.answer.server is not None and self.answer.rule is None
 
     @property
+    def is_host_as_path(self):
+        """Whether the page's own server is asked, since the URL begins with a host and lacks its scheme."""
+        from commands import slips  # where no server answers
+        return self.request.origin == self.page_origin and slips.of_url(self.command.url) is not None
+
+    @property
     def nearest_rule(self):
         """A sentence on the rules that the server has."""
         told = self.scenario.told_rules(self.answer.server)
-        return "its rules are for " + ", ".join(told) if told else "it has no rules"
+        is_twice = self.request.origin in self.scenario.origins_twice
+        return ("its rules are for " + ", ".join(told) if told else "it has no rules") + (
+            ", and another server of this origin, which is never asked, stands behind it" if is_twice else "")
 
     @property
     def or_path(self):
@@ -325,9 +335,10 @@ class Case:
     def needs(self):
         """What CORS wants of the answers at the URL of the last request."""
         is_asked = is_preflight(self.request)
-        names = [name for name in self.asked_headers.split(",") if name] if is_asked else []
+        names = [name for name in self.asked_names if name not in self.stray_names] if is_asked else []
+        is_sure = is_asked and (self.has_listener or not self.stray_names)
         return Needs(self.asked_url, self.origin, self.includes, self.method, names,
-                     self.head if is_asked else None, self.own_head, is_asked, self.varies)
+                     self.head if is_asked else None, self.own_head, is_sure, self.varies)
 
     @property
     def lacking_behind(self):
@@ -368,7 +379,8 @@ class Case:
 
     @property
     def preflight_head(self):
-        """The head that answered a preflight at this URL, or would by the scenario's servers; None where it is not known."""
+        """The head that answered a preflight at this URL, or would by the scenario's servers; None where it is not
+        known."""
         heads = [answer.head for request, answer in self.exchanges
                  if is_preflight(request) and self.whole(request) == self.asked_url]
         return heads[-1] if heads else self.head_of("OPTIONS")
@@ -386,7 +398,8 @@ class Case:
 
     @cached_property
     def needs_told(self):
-        """The same, where the page asks as it should: by the method in capitals, and without a User-Agent of its own."""
+        """The same, where the page asks as it should: by the method in capitals, and without a User-Agent of its
+        own."""
         needs = copy.copy(self.needs)
         if self.result.number == 10 and self.is_page_in_small:
             needs.method = self.same_method
@@ -483,7 +496,8 @@ class Case:
 
     @cached_property
     def violations(self):
-        """Each violation that was told, once for each policy and URL; of a URL that is not loaded here those that were."""
+        """Each violation that was told, once for each policy and URL; of a URL that is not loaded here those that
+        were."""
         found, hops, number = [], self.hops, 0
         for event in self.fetch.events:
             if event.kind == "send" and not is_preflight(event):
@@ -598,6 +612,12 @@ class Case:
         return is_address(host_of(self.policy_url)) and origin_of(self.policy_url) != self.page_origin
 
     @property
+    def is_policy_loopback(self):
+        """Whether it is 127.0.0.1, and a word names that."""
+        is_asked = self.is_policy_address and host_of(self.policy_url) == "127.0.0.1"
+        return is_asked and any(csp.place_of(word) == "127.0.0.1" for word in self.directive[1])
+
+    @property
     def policy_asked(self):
         return self.asked_of(self.violated)
 
@@ -608,7 +628,8 @@ class Case:
 
     def near_in(self, words):
         near = csp.near(words, self.policy_asked) or csp.Near("", "", "")
-        return near._replace(written=re.sub("^http:", "https:", near.written)) if self.is_secure else near
+        is_upgraded = self.is_secure and not is_trustworthy(self.policy_url)
+        return near._replace(written=re.sub("^http:", "https:", near.written)) if is_upgraded else near
 
     @property
     def near_fault(self):
@@ -638,7 +659,8 @@ class Case:
     def then_strict(self):
         """What 'strict-dynamic' means for the page's other scripts, once it has its quotes."""
         is_new = self.kind == "script" and "'strict-dynamic'" in [right.lower() for _, right in self.unquoted_words]
-        return "; then no host counts for scripts, and each that a parser inserts needs a nonce or a hash" if is_new else ""
+        return ("; then no host counts for scripts, and each that a parser inserts needs a nonce or a hash"
+                if is_new else "")
 
     @property
     def policy_nonces(self):
@@ -650,7 +672,8 @@ class Case:
 
     @property
     def common_nonce(self):
-        """The nonce that is to stand at the element: its own, where a policy has it, or the first of a policy; or an empty text."""
+        """The nonce that is to stand at the element: its own, where a policy has it, or the first of a policy; or an
+        empty text."""
         effective = csp.EFFECTIVE[self.kind]
         lists = [csp.deciding(policy, effective)[1] for policy in self.mended]
         mended = [(words, dict(csp.unquoted(words))) for words in lists]
@@ -745,7 +768,7 @@ class Case:
     @property
     def digests(self):
         """The valid tokens of the integrity text, by algorithm."""
-        found = re.findall(r"(?:^|\s)(sha256|sha384|sha512)-([A-Za-z0-9+/_-]+={0,2})(?=[\s?]|$)", self.command.options["integrity"])
+        found = DIGEST.findall(self.command.options["integrity"])
         return {name: [value for own, value in found if own == name] for name in ALGORITHMS if name in dict(found)}
 
     @property
@@ -828,6 +851,14 @@ class Case:
     @property
     def but_gzip(self):
         return "; its first bytes, 1f 8b, are those of gzip" if self.is_gzip else ""
+
+    @property
+    def why_coded(self):
+        """What is to be installed, where that is all that a coding lacks here."""
+        from commands import codings  # which bin/ask alone needs
+        is_lacking = "br" in codings.lacking(self.coding)
+        return ", since python3 has no module brotli: install Debian's package python3-brotli, or brotli by pip" \
+            if is_lacking else ""
 
     @property
     def right_coding(self):
@@ -936,8 +967,8 @@ class Case:
 
     @property
     def is_silent(self):
-        """Whether the connection was given up, since nothing more came: by whoever kept the answer, or by fetchplay itself, who is
-        less patient then."""
+        """Whether the connection was given up, since nothing more came: by whoever kept the answer, or by fetchplay
+        itself, who is less patient then."""
         return self.link == "hang" or (self.link == "done" and not self.is_direct)
 
     @property
@@ -1095,6 +1126,16 @@ class Case:
         return header_of(self.request, "Access-Control-Request-Headers") or ""
 
     @property
+    def asked_names(self):
+        """The names of the request's headers that a preflight asks for."""
+        return [name for name in self.asked_headers.split(",") if name]
+
+    @property
+    def stray_names(self):
+        """Those of them that are headers of answers, and do nothing in a request but ask for a preflight."""
+        return [name for name in self.asked_names if name.startswith("access-control-")]
+
+    @property
     def why_status(self):
         """What is to be said of an error page in the place of what was asked for."""
         return f"; but first look why it is {self.status}" if self.status >= 400 else ""
@@ -1171,8 +1212,8 @@ def are_whole(data, at):
 
 
 def distinct(violations):
-    """Each of a policy and a URL once: a report-only policy is told at the request and at the response, and the URL of that
-    may be upgraded."""
+    """Each of a policy and a URL once: a report-only policy is told at the request and at the response, and the URL of
+    that may be upgraded."""
     found = {}
     for one in violations:
         found.setdefault((one.policy, secure(one.url)), one)

@@ -20,7 +20,8 @@ def allow(*headers, **more):
 
 
 def scenario(command, rules=None, origin=API, page=PAGE + "/", headers=(), **more):
-    document = {"url": page, "headers": [list(one) for one in headers], "script": command if isinstance(command, list) else [command]}
+    script = command if isinstance(command, list) else [command]
+    document = {"url": page, "headers": [list(one) for one in headers], "script": script}
     if "top" in more:
         document["top"] = more.pop("top")
     servers = [] if rules is None else [{"origin": origin, "rules": rules}]
@@ -87,6 +88,7 @@ PREFLIGHTS = {
     "preflight/method-in-another-case": scenario(fetch(method="patch"), allow(["Access-Control-Allow-Methods", "PATCH"])),
     "preflight/method-not-listed": scenario(fetch(**PUT), allow(["Access-Control-Allow-Methods", "GET, POST"])),
     "preflight/authorization-under-star": scenario(fetch(**SECRET), allow(["Access-Control-Allow-Headers", "*"])),
+    "preflight/header-of-answers": scenario(fetch(headers=[["Access-Control-Allow-Origin", "*"]]), allow()),
     "preflight/user-agent": scenario(fetch(headers=[["User-Agent", "curl/8.9"]]), allow()),
     "preflight/header-absent": scenario(fetch(**NAMED), allow()),
     "preflight/header-star-with-credentials": scenario(fetch(**NAMED, **INCLUDE), allow(TRUE, ["Access-Control-Allow-Headers", "*"])),
@@ -106,6 +108,7 @@ POLICIES = {
     "policy/hash-absent": policed("script-src 'sha256-AAAA'", load("script", integrity="sha256-" + DIGEST["sha256"]),
                                  servers=[{"origin": API, "rules": [rule(200, body="abc")]}]),
     "policy/nothing-allowed": policed("default-src 'none'"),
+    "policy/loopback-address": policed("connect-src http://127.0.0.1:80", fetch("http://127.0.0.1/x"), page="http://shop.test/"),
     "policy/ip-address": policed("connect-src https://203.0.113.7", fetch("https://203.0.113.7/x")),
     "policy/colon": policed("connect-src https"),
     "policy/path-star": policed("connect-src https://api.test/*"),
@@ -158,6 +161,7 @@ ANSWERS = {
     "integrity/stale-strongest": answered(OK, body="abc", integrity="sha256-%s sha384-AAAA" % DIGEST["sha256"]),
     "integrity/mismatch": answered(OK, body="abd", integrity="sha256-" + DIGEST["sha256"]),
     "no-verdict/coded": answered(OK, ["Content-Encoding", "gzip"], body="abc"),
+    "head/host-as-path": scenario(fetch("api.test/x"), [rule(200, [OK])]),
     "head/no-server": scenario(fetch(), [rule()], "https://api.test:8443"),
     "head/nothing": raw(""),
     "head/tls": raw("\x15\x03\x01 "),
@@ -222,6 +226,7 @@ NET = {
 
 def scripted():
     """Each way's name, its scenario as a text, and the name of the fetch."""
-    for name, given in {**CORS, **PREFLIGHTS, **UNLOADED, **BEFORE_SENDING, **POLICIES, **ANSWERS, **REQUESTS, **SEEN}.items():
+    tables = (CORS, PREFLIGHTS, UNLOADED, BEFORE_SENDING, POLICIES, ANSWERS, REQUESTS, SEEN)
+    for name, given in (row for table in tables for row in table.items()):
         data, which = given if isinstance(given, tuple) else (given, None)
         yield name, json.dumps(data), which

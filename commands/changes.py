@@ -86,8 +86,17 @@ def good_url(c, url):
 # ---- CORS
 
 def cors(c):
-    """All that the answers at this URL need: of a preflight that was refused both."""
-    return [c.needs.all_edits() if is_preflight(c.request) else c.needs.own_edits()]
+    """All that the answers at this URL need: of a preflight that was refused both, behind what is to be left out of
+    the request."""
+    return [stray_headers(c) + c.needs.all_edits() if is_preflight(c.request) else c.needs.own_edits()]
+
+
+def stray_headers(c):
+    """The request without the headers of answers that a script has set there."""
+    if not c.stray_names:
+        return []
+    left = [list(pair) for pair in c.command.options["headers"] if pair[0].lower() not in c.stray_names]
+    return [{**edits.request("headers", left), "gone": c.stray_names}]
 
 
 def cors_or_without_credentials(c):
@@ -358,9 +367,16 @@ def rewrite(c):
 
 
 def secure_or_rewrite(c):
-    is_plain = scheme_of(c.policy_url) == "http" and not c.violated.redirected
+    is_of_machine = is_trustworthy(c.policy_url)
+    is_plain = scheme_of(c.policy_url) == "http" and not c.violated.redirected and not is_of_machine
     asked = [lead_to(secure(c.policy_url), c)] if is_plain else []
-    return asked + ([] if c.is_secure else rewrite(c))
+    return asked + ([] if c.is_secure and not is_of_machine else rewrite(c))
+
+
+def with_https(c):
+    """The URL with the scheme that it lacks."""
+    url = "https://" + c.command.url.strip()
+    return [[edits.request("url", url), *missing_server(c, url)]]
 
 
 def before_upgrade(c):

@@ -82,6 +82,18 @@ class Brotli:
             yield from (made[start:start + STEP] for start in range(0, len(made), STEP))
 
 
+def names_of(value):
+    """The codings that the value of a Content-Encoding names, in order."""
+    words = [word.strip("\t ").lower() for word in (value or "").split(",")]
+    return [word for word in words if word not in ("", "identity")]
+
+
+def lacking(value):
+    """Those of them that nothing here decodes."""
+    names = names_of(value)
+    return [word for word in names if decoder(word) is None] or names[MOST_CODINGS:]
+
+
 def decoder(coding):
     """The decoder of a coding; None where there is none here."""
     if coding in ("gzip", "x-gzip", "deflate"):
@@ -182,9 +194,7 @@ class Stream:
     def is_coded(self, head):
         """Whether there is a body to decode, and a decoder of each of its codings."""
         value = head.get("Content-Encoding") if head and self.method != "HEAD" and head.status not in NO_BODY else None
-        words = [word.strip("\t ").lower() for word in (value or "").split(",")]
-        self.codings = [word for word in words if word not in ("", "identity")]
-        self.lacks = [word for word in self.codings if decoder(word) is None] or self.codings[MOST_CODINGS:]
+        self.codings, self.lacks = names_of(value), lacking(value)
         return value not in (None, "", "identity") and not self.lacks
 
     def chunked(self, pieces):

@@ -1,5 +1,5 @@
-"""A document's policies as CSP 3 has them: which directive decides, whether its words let a request pass, and which word
-comes near to one that would. docs/rules/csp.md has the rules. They serve for what is said; the engine decides."""
+"""A document's policies as CSP 3 has them: which directive decides, whether its words let a request pass, and which
+word comes near to one that would. docs/rules/csp.md has the rules. They serve for what is said; the engine decides."""
 import functools
 import re
 from collections import namedtuple

@@ -1,9 +1,9 @@
-"""Warnings: what a scenario may say, and surely is meant otherwise. Each is a place of the text and a sentence. All of them
-take time in proportion to the scenario and its play, however many rules, keys or origins these have."""
+"""Warnings: what a scenario may say, and surely is meant otherwise. Each is a place of the text and a sentence. All of
+them take time in proportion to the scenario and its play, however many rules, keys or origins these have."""
 from collections import namedtuple
 from urllib.parse import urlsplit
 
-from commands import lints, verdicts
+from commands import lints, slips, verdicts
 from commands.urls import host_of, is_trustworthy
 
 METHODS = ("DELETE", "GET", "HEAD", "OPTIONS", "POST", "PUT")
@@ -31,11 +31,12 @@ def of_finding(at, finding):
 
 def of_scenario(scenario, play, is_net):
     """Pairs of a place and a sentence."""
-    found = [*double_keys(scenario.root), *pages_of_known_hosts(scenario)]
+    found = [*double_keys(scenario.root), *pages_of_known_hosts(scenario), *attributes_of_cookies(scenario)]
     if not is_net:
         found += rules_without_use(scenario)
         found += servers_without_use(scenario)
     if play is not None:
+        found += hosts_as_paths(scenario, play)
         found += origins_without_server(scenario, play, is_net)
         found += cookies_elsewhere(scenario, play)
         if not is_net:
@@ -69,7 +70,8 @@ def servers_without_use(scenario):
     nodes = scenario.root.member("servers")
     for index, server in enumerate(scenario.servers()):
         if scenario.server_of(server["origin"]) != index:
-            yield nodes.items[index].start, "another server of %s stands before this one, and answers all its requests" % server["origin"]
+            yield nodes.items[index].start, (
+                "another server of %s stands before this one, and answers all its requests" % server["origin"])
 
 
 def rule_nodes(scenario, server):
@@ -162,7 +164,8 @@ def pages_of_known_hosts(scenario):
 
 
 def origins_without_server(scenario, play, is_net):
-    known = [origin for origin, _ in scenario.data.get("routes", [])] if is_net else [one["origin"] for one in scenario.servers()]
+    known = ([origin for origin, _ in scenario.data.get("routes", [])] if is_net
+             else [one["origin"] for one in scenario.servers()])
     by_host = {host_of(one): one for one in reversed(known)}
     what = "route" if is_net else "server"
     told = set(known)
@@ -177,9 +180,26 @@ def origins_without_server(scenario, play, is_net):
                     name, request.origin, what, more)
 
 
+def hosts_as_paths(scenario, play):
+    """URLs without a scheme that begin with a host: they are paths of the page."""
+    for fetch in play.fetches():
+        sentence = slips.of_url(fetch.command.options["url"])
+        if sentence:
+            yield place_of(scenario, fetch), sentence
+
+
 def place_of(scenario, fetch):
     node = scenario.root.at(fetch.command.path)
     return (node.member("url") or node).start
+
+
+def attributes_of_cookies(scenario):
+    """Cookies as Set-Cookie has them, with what browsers keep to themselves."""
+    node = scenario.root.member("cookies")
+    for index, (_, value) in enumerate(scenario.data.get("cookies", [])):
+        sentence = slips.of_cookies(value)
+        if sentence:
+            yield node.items[index].start, sentence
 
 
 def cookies_elsewhere(scenario, play):
@@ -190,5 +210,5 @@ def cookies_elsewhere(scenario, play):
     for index, (origin, _) in enumerate(scenario.data.get("cookies", [])):
         near = by_host.get(host_of(origin))
         if origin not in asked and near:
-            yield node.items[index].start, "this cookie is of %s, and the requests go to %s: a scenario's cookies have a scheme and a port" % (
-                origin, near)
+            yield node.items[index].start, (f"this cookie is of {origin}, and the requests go to {near}: a scenario's "
+                                            "cookies have a scheme and a port")

@@ -1,6 +1,6 @@
-"""What is to be changed, as data, and the sentence that is made of it. An edit is an object: `at` says where (preflight,
-answer, page, request or scenario), and `set`, `remove` or `add` what, with its `value`. That of an answer has the
-`method` and the `url` of its request; that of a policy its number, and `set` is the name of the directive.
+"""What is to be changed, as data, and the sentence that is made of it. An edit is an object: `at` says where
+(preflight, answer, page, request or scenario), and `set`, `remove` or `add` what, with its `value`. That of an answer
+has the `method` and the `url` of its request; that of a policy its number, and `set` is the name of the directive.
 
     {"at": "answer", "method": "PUT", "url": "https://api.test/x", "set": "Content-Type", "value": "text/css"}
     {"at": "preflight", "method": "OPTIONS", "url": "https://api.test/x", "set": "status", "value": 204}
@@ -225,6 +225,10 @@ def of_one_request(edit):
         return "leave the integrity text out"
     if edit["set"] == "parser":
         return "let a script insert the element"
+    if edit.get("gone"):
+        names = ["`%s`" % name for name in edit["gone"]]
+        return "leave %s, %s, out of the request" % (
+            listed(names), "a header of answers" if len(names) == 1 else "headers of answers")
     if edit["set"] == "headers":
         lines = listed("`%s: %s`" % tuple(pair) for pair in edit["value"]) if edit["value"] else "no header"
         return "let the script set " + lines

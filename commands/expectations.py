@@ -5,20 +5,20 @@ import json
 import os
 import re
 
-from commands import (asking, edits, findings, json_text, known_hosts, lints, notes, play_text, policy_questions, refusals,
-                      results, running, streams, verdicts, wanted_refusals, wanted_requests)
+from commands import (asking, doubts, edits, findings, json_text, known_hosts, lints, notes, play_text,
+                      policy_questions, refusals, results, running, streams, test_words, verdicts, wanted_refusals, wanted_requests)
 from commands.asking import Wrong
 from commands.case import CAUSES
 from commands.explanations import NOTHING, TABLE, explain, lines_of
 from commands.names import DIRECTIVES
 from commands.schema import Schema
+from commands.test_words import KEY
 
 SCHEMA = os.path.join(running.ROOT, "schema", "expect.schema.json")
 WAYS = [way.name for way in TABLE]
 OTHERS = ("sent", "never sent", *policy_questions.KEYS)  # the keys of `expect` that name no fetch
 MOST_UNNAMED = 20  # lines
 ONLY_STRICT = "all came as expected; --strict alone makes it `not ok`, for these warnings:"
-KEY = re.compile(r"(?:document ([0-9]{1,3}) )?(fetch|load) ([0-9]{1,4})")
 # As a play prints it behind the word violation, as far as a test says it.
 VIOLATION = re.compile(r"(?:([0-9]{1,2}) )?(?:(enforce|report) )?(\S+)(?: (\S+))?")
 
@@ -62,11 +62,19 @@ def check(text, root):
     schema = schema_of_tests()
     problems = schema.check(root)
     if problems and root.kind == "object" and root.member("documents") and not root.member("expect"):
-        raise Wrong(refusals.Refusal(text, root.start, "/", "this is a scenario, and no test: bin/why plays it; a test has the "
-                                     'keys "scenario" and "expect"'))
+        raise Wrong(refusals.Refusal(text, root.start, "/", "this is a scenario, and no test: bin/why plays it; a test "
+                                     'has the keys "scenario" and "expect"'))
+    stray = next((key for key, _ in (root.members if root.kind == "object" else []) if KEY.fullmatch(key.value)), None)
+    if stray is not None:
+        raise Wrong(refusals.Refusal(text, stray.start, "/" + stray.value, 'the key "%s" belongs in "expect": '
+                                     'write {"scenario": .., "expect": {"%s": ..}}' % (stray.value, stray.value)))
     if problems:
         first = min(problems, key=lambda problem: problem.kind == "missing")  # that may be a misspelt one
-        raise Wrong(refusals.of_problem(text, first, schema))
+        refusal = refusals.of_problem(text, first, schema)
+        refusal.more += refusals.also(text, [one for one in problems if one is not first], [first], schema)
+        raise Wrong(refusal)
+    for at, sentence in doubts.double_keys(root.member("expect")):
+        raise Wrong(refusals.Refusal(text, at, "/expect", sentence.replace("the last one counts", "take one out")))
     for key, value in root.member("expect").members:
         for node, place, sentence in wrongs(key, value):
             raise Wrong(refusals.Refusal(text, node.start, "/expect/" + place, sentence))
@@ -80,8 +88,9 @@ def wrongs(key, value):
         yield from of_requests(value, key.value)
     else:
         if not KEY.fullmatch(key.value):
-            yield key, key.value, 'the key "%s" names no fetch: write "fetch 0", "load 2", "document 1 fetch 0", or one of %s' % (
-                key.value, ", ".join('"%s"' % one for one in OTHERS))
+            any_of_them = '"fetch 0", "load 2", "document 1 fetch 0", or one of ' + ", ".join(map(json.dumps, OTHERS))
+            meant = test_words.key_meant(key.value, OTHERS) or any_of_them
+            yield key, key.value, f'the key "{key.value}" names no fetch: write {meant}'
         yield from of_outcome(key.value, value)
 
 
@@ -101,6 +110,8 @@ def of_requests(value, place):
 
 
 def of_outcome(place, value):
+    def result_problem(wanted):
+        return test_words.result_problem(wanted, "load" if "load" in place else "fetch", WAYS)
     if value.kind == "string":
         yield from of_items(value, place, result_problem)
     elif not value.members:
@@ -113,15 +124,6 @@ def of_outcome(place, value):
                 yield from of_items(value.member(name), "%s/%s" % (place, name), problem)
         if value.member("sent") is not None:
             yield from of_requests(value.member("sent"), place + "/sent")
-
-
-def result_problem(wanted):
-    word = results.unknown_word(results.negated(wanted)[1])
-    if word is None:
-        return None
-    meant = refusals.nearest(word, results.WORDS)
-    return 'no result has the word "%s": write %s' % (
-        word, '"%s"' % meant if meant else "read, refused, a result as it is printed, or not and one of these")
 
 
 def way_problem(wanted):
@@ -153,7 +155,8 @@ def upgrade_problem(wanted):
 
 
 def scenario_of(node, text, path):
-    """The bytes of the scenario, and the name of its file. Of one that stands in the test the places are those of the test."""
+    """The bytes of the scenario, and the name of its file. Of one that stands in the test the places are those of the
+    test."""
     if node.kind == "object":
         before = re.sub(r"[^\n]", " ", text[:node.start])
         return (before + text[node.start:node.end]).encode("utf-8"), path or "standard input"
@@ -197,6 +200,7 @@ def outcome_of(test, is_net, patience, is_strict):
     warned = list(warnings(text, scenario, told, test.scenario_name, is_net))
     warned += [(line, True) for line in unnamed(test.expect, told)] if is_strict else []
     warned += [(line, True) for line in unknown(test.expect, test.scenario.decode("utf-8", "replace"))]
+    warned += [(line, True) for line in empty(test.expect, told)]
     faults = [line for line, is_fault in warned if is_fault and is_strict]
     by_strict = [ONLY_STRICT] if faults and not lines else []
     return Outcome(test.name, lines + (wholes if lines else []) + by_strict + faults,
@@ -223,8 +227,7 @@ def untrusted(expect, count):
     wanted = {}
     for key, value in expect.items():
         if fetch_of(key):
-            own = value if isinstance(value, dict) else {"result": value}
-            wanted.setdefault(fetch_of(key)[0], []).append(wanted_refusals.is_meant(own))
+            wanted.setdefault(fetch_of(key)[0], []).append(wanted_refusals.is_meant(as_object(value)))
     return {number for number, are_meant in wanted.items() if all(are_meant) and number < count}
 
 
@@ -265,8 +268,51 @@ def unknown(expect, scenario):
         found = re.fullmatch(r"(?:https?://([^/?]*))?(/[^?]*)?.*", where)
         for part in filter(None, found.groups() if found else [where]):
             if part not in scenario:
-                yield f"warning: never sent: {one}: nothing in the scenario has {part}: is it spelt as it would be sent?"
+                yield (f"warning: never sent: {one}: nothing in the scenario has {part}: is it spelt as it would be "
+                       "sent?")
                 break
+
+
+def empty(expect, told):
+    """A line for each fetch or load that comes as a test wants it, and that says nothing of the server or the policy
+    which is tested: the scenario lacks the rule, or this engine never loads the URL."""
+    cases, are_many = cases_of(told), len(told.play.documents) > 1
+    if not expect:
+        yield "warning: the test expects nothing, so that it is always met"
+    for key, wanted in expect.items():
+        case = cases.get(fetch_of(key))
+        if case is not None:
+            wanted = as_object(wanted)
+            yield from wanted_refusals.by_gap(case, wanted, are_many)
+            yield from under_any_policy(key, case, wanted, are_many)
+
+
+def under_any_policy(key, case, wanted, are_many):
+    """Of a URL that this engine never loads that a test wants of it what comes whatever the page's policies say."""
+    is_asked = case.is_unloaded and not case.is_mixed_socket and case.policies and "violations" not in wanted
+    result = wanted.get("result")
+    if is_asked and (result is None or all(is_met(result, as_if(case, word)) for word in ("refused", "none"))):
+        what = f"`{result}`" if result is not None else "what the test wants"
+        meant = json.dumps({**wanted, **as_it_came(case)})
+        yield (f"warning: {verdicts.named(case, are_many)}: {what} comes under every policy, since this engine does "
+               f'not load the URL: write "{key}": {meant}, which asks the policies, if that is meant')
+
+
+def as_if(case, verdict):
+    """The result of a case, had it this verdict."""
+    result = copy.copy(case.result)
+    result.verdict = verdict
+    return result
+
+
+def as_object(wanted):
+    """What a test wants of a fetch or load, as an object."""
+    return {"result": wanted} if isinstance(wanted, str) else wanted
+
+
+def cases_of(told):
+    """The cases of a play by the numbers of their documents and their names."""
+    return {(case.fetch.document.number, case.fetch.name): case for case in told.cases}
 
 
 def whole_lines(scenario, told, passing, lacking, is_met):
@@ -293,7 +339,7 @@ def whole_lines(scenario, told, passing, lacking, is_met):
 
 def differences(expect, told, passing):
     """Lines for all that came otherwise. What a policy is to let pass is added to `passing`, as by policy_questions."""
-    cases = {(case.fetch.document.number, case.fetch.name): case for case in told.cases}
+    cases = cases_of(told)
     for key, wanted in expect.items():
         if key == "sent":
             yield from missing(told, listed(wanted))
@@ -318,8 +364,7 @@ def missing(told, wanted):
 def unwanted(told, wanted, expect):
     own = {fetch_of(key): value for key, value in expect.items() if fetch_of(key)}
     for case in told.cases:
-        meant = own.get((case.fetch.document.number, case.fetch.name), {})
-        meant = {"result": meant} if isinstance(meant, str) else meant
+        meant = as_object(own.get((case.fetch.document.number, case.fetch.name), {}))
         for request, _ in case.exchanges:
             for one in wanted:
                 if wanted_requests.is_met(one, request):
@@ -343,9 +388,12 @@ def of_fetch(key, wanted, cases, passing, sent):
     case = cases.get(fetch_of(key))
     if case is None:
         has = ", ".join(name for _, name in list(cases)[:20]) or "none"
-        yield "%s: there is none; the play has %s" % (key, has)
+        number = key.rpartition(" ")[2]
+        is_other = any(name.endswith(" " + number) for _, name in cases)
+        yield "%s: there is none; the play has %s%s" % (
+            key, has, ": fetches and loads are counted together" if is_other else "")
         return
-    wanted = {"result": wanted} if isinstance(wanted, str) else wanted
+    wanted = as_object(wanted)
     found = list(of_case(case, wanted))
     yield from ("%s%s: %s" % (key, verdicts.asked(case), line) for _, line in found)
     failed = {name for name, _ in found}
@@ -363,8 +411,7 @@ def of_fetch(key, wanted, cases, passing, sent):
 def change_of_test(key, case, wanted):
     """What a test is to say of a URL that this engine never loads, where no change of a policy brings what it wants."""
     word = "refused" if wanted_refusals.is_meant(wanted) else "no-verdict"
-    came = copy.copy(case.result)
-    came.verdict = "refused" if word == "refused" else "none"
+    came = as_if(case, "refused" if word == "refused" else "none")
     if not case.is_unloaded or is_met(wanted["result"], came):
         return
     own = [one for one in findings.violations(case) if word == "refused" or one["disposition"] == "report"]
@@ -469,7 +516,8 @@ def look_at_violations(case, wanted):
 
 def is_part(wanted, violation):
     """Whether a violation has all words that a test says of it."""
-    return all(own in (None, other) for own, other in zip(VIOLATION.fullmatch(wanted).groups(), violation.split(" ", 3)))
+    pairs = zip(VIOLATION.fullmatch(wanted).groups(), violation.split(" ", 3))
+    return all(own in (None, other) for own, other in pairs)
 
 
 def look_at_upgrades(case, wanted):

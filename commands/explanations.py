@@ -1,9 +1,10 @@
 """Why a fetch came to what it came: one table of ways, the first that holds of a case.
 
 Each network error, each fault and each result that lets a script see less than was sent has its ways, and each way the
-condition that failed, the header that decided, what to change, the rule's page, and the changes as data (changes.py), of
-which the text is made where it says {change}. In the texts `c` is the case (case.py). `commands/check` shows that each way
-is reached and that no result of any stored play is without one, and `commands/check_advice` that each change helps."""
+condition that failed, the header that decided, what to change, the rule's page, and the changes as data (changes.py),
+of which the text is made where it says {change}. In the texts `c` is the case (case.py). `commands/check` shows that
+each way is reached and that no result of any stored play is without one, and `commands/check_advice` that each change
+helps."""
 import difflib
 import re
 from collections import namedtuple
@@ -118,7 +119,7 @@ PREFLIGHTS = [
         "the answer to the preflight has no Access-Control-Allow-Methods, and {c.method} is none of GET, HEAD and POST",
         ALLOW_METHODS, "{change}", PREFLIGHT, changes.cors),
     Way("preflight/method-star-with-credentials", "10", lambda c: "*" in c.methods and c.includes,
-        "Access-Control-Allow-Methods is `*`, which covers no method of a request with credentials", ALLOW_METHODS,
+        "Access-Control-Allow-Methods has `*`, which covers no method of a request with credentials", ALLOW_METHODS,
         "list the method in its place: {change}", PREFLIGHT, changes.cors),
     Way("preflight/method-in-another-case", "10", lambda c: c.same_method != "",
         "Access-Control-Allow-Methods has `{c.same_method}`, and the request's method is `{c.method}`: the case counts",
@@ -130,6 +131,9 @@ PREFLIGHTS = [
         lambda c: c.result.detail == "authorization" and "*" in c.names and not c.includes,
         "`*` in Access-Control-Allow-Headers does not cover Authorization", ALLOW_HEADERS,
         "list it by its name: {change}", PREFLIGHT, changes.cors),
+    Way("preflight/header-of-answers", "11", lambda c: c.result.detail in c.stray_names,
+        "the script sets {c.result.detail}, which is a header of answers and does nothing in a request, but that a "
+        "preflight asks for it", ALLOW_HEADERS, "{change}", PREFLIGHT, changes.cors),
     Way("preflight/user-agent", "11", lambda c: c.result.detail == "user-agent",
         "the script sets User-Agent, as a command line of curl does, and the answer to the preflight does not list it; browsers "
         "send their own", ALLOW_HEADERS, "{change}", PREFLIGHT, changes.without_user_agent),
@@ -137,7 +141,7 @@ PREFLIGHTS = [
         "the answer to the preflight has no Access-Control-Allow-Headers, and the request has {c.result.detail}",
         ALLOW_HEADERS, "{change}", PREFLIGHT, changes.cors),
     Way("preflight/header-star-with-credentials", "11", lambda c: "*" in c.names and c.includes,
-        "Access-Control-Allow-Headers is `*`, which covers no header of a request with credentials", ALLOW_HEADERS,
+        "Access-Control-Allow-Headers has `*`, which covers no header of a request with credentials", ALLOW_HEADERS,
         "list the names in its place: {change}", PREFLIGHT, changes.cors),
     Way("preflight/header-not-listed", "11", always,
         "Access-Control-Allow-Headers does not have {c.result.detail}", ALLOW_HEADERS,
@@ -184,6 +188,9 @@ POLICIES = [
         "{change}", POLICY, changes.add_hashes),
     Way("policy/nothing-allowed", "4", lambda c: [word.lower() for word in c.directive[1]] in ([], ["'none'"]),
         "{c.policy} has `{c.directive_text}`, which lets nothing pass", "", "{change}", POLICY, changes.add_source),
+    Way("policy/loopback-address", "4", lambda c: c.is_policy_loopback,
+        "{c.policy} has `{c.directive_text}`, where browsers match `127.0.0.1`, as CSP 3 has it, and this engine matches no "
+        "IP address", "", "a browser needs no change; for a verdict here {change}", WORDS, changes.add_source),
     Way("policy/ip-address", "4", lambda c: c.is_policy_address,
         "{c.policy} has `{c.directive_text}`, and the host of {c.policy_url} is an IP address, which no word with a host "
         "matches", "",
@@ -376,6 +383,9 @@ LINKS = [
         "look why it does not answer; --timeout gives it longer", "../why.md#your-own-server"),
     Way("link/reset", "24", always, "the connection to {c.route} broke before the head of the answer was whole", "",
         "look into the server's log: it ended, or reset the connection", "../why.md#your-own-server"),
+    Way("head/host-as-path", "25", lambda c: not c.is_net and c.answer.server is None and c.is_host_as_path,
+        "`{c.command.url}` has no scheme, so it is a path of the page, and the scenario has no server {c.request.origin}",
+        "", "write the scheme: {change}", "../scenario.md#servers", changes.with_https),
     Way("head/no-server", "25", lambda c: not c.is_net and c.answer.server is None,
         "{c.why_scheme}the scenario has no server {c.request.origin}: {c.near_server}", "",
         "add a server of this origin, with this scheme and this port{c.or_known}", "../scenario.md#servers",
@@ -475,7 +485,7 @@ ASKED = {
     "seen/body-hang": ("the head came, and the body did not end before the time limit{c.but_length}",
                        "end it{c.or_length}; of a stream that has no end a page reads what comes, which is not done "
                        "here"),
-    "no-verdict/coded": ("no verdict: {c.coding} is not decoded here; a browser would read the body only if it is of "
+    "no-verdict/coded": ("no verdict: {c.coding} is not decoded here{c.why_coded}; a browser would read the body only if it is of "
                          "that coding{c.but_gzip}; CORS, policies and types let it",
                          "{c.if_gzip}for a verdict here send the body uncoded, and {change}{c.unless_gzip}"),
     "seen/body-toobig": ("the body is longer than the 1,048,576 bytes that are read here", "nothing: a page reads on"),
@@ -489,8 +499,8 @@ SOMETIMES = re.compile(r"\{c\.(?:where|back_where|next_differs|no_cookie|but_kno
 
 
 def way_lines():
-    """Each way in a line: its name, its results, and its condition, in which words in capitals stand for what is told of the
-    fetch."""
+    """Each way in a line: its name, its results, and its condition, in which words in capitals stand for what is told
+    of the fetch."""
     for way in TABLE:
         text = SOMETIMES.sub("", way.condition).replace("{c.the_answer}", "the answer")
         condition = re.sub(r"\{c\.(?:\w+[.\[])*(\w+)\]?\}",

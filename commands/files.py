@@ -6,8 +6,8 @@ LARGEST = 268435456  # bytes of a file that is looked at
 
 
 def refusal(path, word, is_own):
-    """Why a word of a command may not write there, in a sentence, or None: over a symbolic link, or over a file that it did
-    not make, which `is_own` says of its bytes."""
+    """Why a word of a command may not write there, in a sentence, or None: over a symbolic link, or over a file that it
+    did not make, which `is_own` says of its bytes."""
     if os.path.islink(path):
         return "%s: %s is a symbolic link: name the file itself" % (word, path)
     if os.path.lexists(path) and not is_made(path, is_own):

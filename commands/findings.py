@@ -1,5 +1,6 @@
-"""What a fetch or load shows, as data: the policies that it violated, the URLs that were made https, and the headers that
-a server has to send. bin/why --json prints it, as schema/why.schema.json has it, and bin/expect compares with it."""
+"""What a fetch or load shows, as data: the policies that it violated, the URLs that were made https, and the headers
+that a server has to send. bin/why --json prints it, as schema/why.schema.json has it, and bin/expect compares with
+it."""
 from commands.urls import secure
 
 

@@ -1,7 +1,7 @@
 """Reads a JSON text to a tree whose nodes have their places, or says in one sentence what is wrong and what to change.
 
-What is taken is what the program takes: RFC 8259 in UTF-8, nested no more than 127 deep. A place is a number of characters
-from the beginning."""
+What is taken is what the program takes: RFC 8259 in UTF-8, nested no more than 127 deep. A place is a number of
+characters from the beginning."""
 import bisect
 import functools
 import re
@@ -20,7 +20,7 @@ ONE_CHARACTER = re.compile(r"\\u[dD][89abAB][0-9a-fA-F]{2}\\u[dD][c-fC-F][0-9a-f
 SHORT = {"b": "\b", "f": "\f", "n": "\n", "r": "\r", "t": "\t"}
 CURLY = "\u201c\u201d\u201e\u201f\u00ab\u00bb"
 SINGLE = "'`\u2018\u2019"
-EXAMPLE = '{"format": 1, "documents": []}'
+EXAMPLES = {"a scenario": '{"format": 1, "documents": []}', "a test": '{"scenario": "scenario.json", "expect": {}}'}
 
 
 class Fault(Exception):
@@ -33,8 +33,8 @@ class Fault(Exception):
 
 
 class Node:
-    """A value of the text: `kind` is object, list, string, number or word. An object has `members`, pairs of a key's node
-    and a value's; a list has `items`; any other has a `value`, and `text`, as it is written."""
+    """A value of the text: `kind` is object, list, string, number or word. An object has `members`, pairs of a key's
+    node and a value's; a list has `items`; any other has a `value`, and `text`, as it is written."""
 
     __slots__ = ("kind", "start", "end", "members", "items", "value", "text")
 
@@ -126,7 +126,7 @@ class Reader:
 
     def whole(self, what):
         if not self.sign():
-            raise Fault(0, "the file is empty: %s is an object, such as %s" % (what, EXAMPLE))
+            raise Fault(0, "the file is empty: %s is an object, such as %s" % (what, EXAMPLES[what]))
         root = self.value()
         if self.sign() == ",":
             raise Fault(self.at, "%s ends before this comma: take out what follows" % what)
@@ -260,7 +260,8 @@ class Reader:
         if not sign:
             return "the text ends, and the %s of line %d is not closed: add %s" % (opening, line, close)
         if sign in "}]":
-            return "%s does not close the %s of line %d: write %s before it, or in its place" % (sign, opening, line, close)
+            return "%s does not close the %s of line %d: write %s before it, or in its place" % (
+                sign, opening, line, close)
         if sign == ";":
             return "a comma belongs here, and no ;"
         return "a comma is missing here, before %s" % self.shown()
@@ -324,7 +325,8 @@ class Reader:
             return self.at, "a tab stands in this text: write \\t for it"
         if sign and sign not in "\r\n":
             return self.at, "a control character stands in this text: write \\u%04x for it" % ord(sign)
-        return node.start, "this text is not closed in its line: add a double quote, or write \\n for a line break in it"
+        return node.start, ("this text is not closed in its line: add a double quote, or write \\n for a line break in "
+                            "it")
 
 
 def read(text, what="a scenario"):

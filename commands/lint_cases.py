@@ -92,6 +92,7 @@ CSP_DIRECTIVES = {
     "csp/unknown-directive": (csp_of("script-scr 'self'; img-src 'self'"), csp_of("Script-Src 'self'; img-src 'self'")),
     "csp/directive-twice": (csp_of("img-src 'self'; img-src https://a.test"),
                             csp_of("img-src 'self'; font-src https://a.test")),
+    "csp/sign-alone": (csp_of("img-src = 'self'"), csp_of("img-src 'self'")),
     "csp/no-words": (csp_of("img-src"), csp_of("upgrade-insecure-requests")),
     "csp/needless-words": (csp_of("upgrade-insecure-requests 1"), csp_of("upgrade-insecure-requests; img-src *")),
     "csp/none-beside-others": (csp_of("img-src 'none' https://a.test"), csp_of("script-src 'none' 'report-sample'")),
@@ -271,6 +272,7 @@ HSTS_MEANT = [
     ("max-age='600'; includesubdomains", "max-age=600; includeSubDomains"),
     ("max-age=600; includeSubDomains=true", "max-age=600; includeSubDomains"),
     ("max-age=600; includeSubdomain", "max-age=600; includeSubDomains"),
+    ("max-age=600; subdomains", "max-age=600; includeSubDomains"),
     ("maxage=600; include-subdomains", "max-age=600; includeSubDomains"),
     ("max_age=600", "max-age=600"), ("max-age 600", "max-age=600"), ('"max-age"=600', "max-age=600"),
     ("'max-age=600'", "max-age=600"), ("'includeSubDomains; max-age=600'", "max-age=600; includeSubDomains"),
@@ -289,6 +291,12 @@ HSTS_MEANT = [
     ("max-age=600; max-age=1y; includeSubDomains", "max-age=600; includeSubDomains",
      "max-age=31536000; includeSubDomains"),
     ("includeSubDomains; includeSubDomains; max-age=600", "max-age=600; includeSubDomains"),
+]
+# Headers that are spelt otherwise, and what is said to write.
+SPELT = [
+    (answer(["Allow-Origin", "*"]), "write `Access-Control-Allow-Origin`"),
+    (answer(["X-Expose-Headers", "*"]), "write `Access-Control-Expose-Headers`"),
+    (page([REFERRER, "same origin"]), "write `same-origin`"), (page([REFERRER, "no referrer"]), "write `no-referrer`"),
 ]
 # The same of what is not ignored, and is not taken into the list of preloaded hosts (a year, and all subdomains).
 HSTS_PRELOADED = {
@@ -442,6 +450,12 @@ MENDED = {
         "default-src 'none'; script-src 'self' 'nonce-abc'; img-src https://a.test",
     "img-src 'self' font-src fonts.test style-src css.test": "img-src 'self'; font-src fonts.test; style-src css.test",
     "img-src a.test; b.test; img-src c.test; font-scr 'self": "img-src a.test b.test c.test; font-src 'self'",
+    "img-src='self'; font-src:https://f.test": "img-src 'self'; font-src https://f.test",
+    "img-src (self); font-src %27none%27; media-src all": "img-src 'self'; font-src 'none'; media-src *",
+    "connect-src ws//a.test //b.test https://u:p@c.test /api ./d": "connect-src wss://a.test https://b.test "
+                                                                "https://c.test https://shop.test/api https://shop.test/d",
+    "script-src 'wasm-eval' inline; img-src mediastream": "script-src 'wasm-unsafe-eval' 'unsafe-inline'; "
+                                                          "img-src mediastream:",
     "default-src 'self' data:; upgrade-insecure-requests 1": "default-src 'self' data:; script-src 'self'; "
                                                              "upgrade-insecure-requests",
 }

@@ -1,5 +1,5 @@
-"""Fetches over real connections. The library says what is to be done next; here it is done, and written down as `fetchplay`
-prints it."""
+"""Fetches over real connections. The library says what is to be done next; here it is done, and written down as
+`fetchplay` prints it."""
 import re
 import socket
 import ssl
@@ -56,8 +56,8 @@ class Exchange:
 
 
 class Wire:
-    """A connection for each request, each of them over before the deadline. `places` are hosts and ports to connect to in the place
-    of others."""
+    """A connection for each request, each of them over before the deadline. `places` are hosts and ports to connect to
+    in the place of others."""
 
     def __init__(self, seconds, places):
         self.deadline = time.monotonic() + seconds
@@ -207,14 +207,15 @@ def looked_up(host, port, seconds):
 
 def word_of(error, otherwise, late):
     """How a connection failed, in a word."""
-    kinds = [(TimeoutError, late), (socket.timeout, late), (ssl.SSLCertVerificationError, "certificate"), (ssl.SSLError, "no-tls"),
+    kinds = [(TimeoutError, late), (socket.timeout, late), (ssl.SSLCertVerificationError, "certificate"),
+             (ssl.SSLError, "no-tls"),
              (socket.gaierror, "unknown-name"), (ValueError, "unknown-name")]
     return next((word for kind, word in kinds if isinstance(error, kind)), otherwise)
 
 
 def is_of_tls_port(answer):
-    """Whether an answer to a plain request is that of a port which speaks TLS: a record of TLS, or a 400 that speaks of HTTPS, as
-    nginx, Apache, Go and Tomcat word it."""
+    """Whether an answer to a plain request is that of a port which speaks TLS: a record of TLS, or a 400 that speaks of
+    HTTPS, as nginx, Apache, Go and Tomcat word it."""
     return answer.startswith(answers.TLS_RECORDS) or bool(BAD_REQUEST.match(answer) and TOLD_BY.search(answer))
 
 

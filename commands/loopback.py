@@ -12,7 +12,8 @@ def certificate(folder, name, hosts):
     """The files of a certificate for hosts, by itself, and of its key."""
     key, file = os.path.join(folder, name + ".key"), os.path.join(folder, name + ".pem")
     names = ",".join("DNS:" + host for host in hosts)
-    subprocess.run(["openssl", "req", "-x509", "-newkey", "rsa:2048", "-nodes", "-days", "2", "-subj", "/CN=" + name, "-addext",
+    subprocess.run(["openssl", "req", "-x509", "-newkey", "rsa:2048", "-nodes", "-days", "2", "-subj", "/CN=" + name,
+                    "-addext",
                     "subjectAltName=" + names, "-keyout", key, "-out", file], check=True, stderr=subprocess.DEVNULL)
     return file, key
 
@@ -28,7 +29,8 @@ class Request:
 
 
 class Servers:
-    """One listener for all origins: what it answers is `answer(request)`: bytes, a word (hang, reset), or bytes and then a word."""
+    """One listener for all origins: what it answers is `answer(request)`: bytes, a word (hang, reset), or bytes and
+    then a word."""
 
     def __init__(self, answer, pair=None):
         self.answer = answer

@@ -7,6 +7,7 @@ RULE = SERVER % '{"origin": "https://b.test", "rules": [%s]}'
 
 # What is no JSON text.
 NO_JSON = [
+    ("a command of curl", "curl 'https://a.test/' -H 'a: b'", 1, 1, "a command of curl, and not a scenario: bin/ask takes"),
     ("a comma before a closing sign", FETCH % '{"wait": 1},', 4, 26, "no comma stands before ]: take it out"),
     ("a comma that is missing", FETCH % '{"wait": 1} {"wait": 2}', 4, 26, "a comma is missing here"),
     ("two commas", FETCH % '{"wait": 1},, {"wait": 2}', 4, 27, "two commas stand here, with nothing between them: take one out"),
@@ -36,7 +37,7 @@ NO_SCENARIO = [
     ("a key beside its object", FETCH % '{"fetch": {"url": "/"}, "mode": "cors"}', 4, 39, "it belongs in the fetch"),
     ("a status outside of a rule", SERVER % '{"origin": "https://b.test", "status": 200}', 2, 43, "it belongs in a rule of a server"),
     ("the wrong case of a mode", FETCH % '{"fetch": {"url": "/", "mode": "CORS"}}', 4, 46, 'write "cors"'),
-    ("a word that is none", FETCH % '{"fetch": {"url": "/", "credentials": true}}', 4, 53, 'write one of "omit", "same-origin", "include"'),
+    ("a word that is none", FETCH % '{"fetch": {"url": "/", "credentials": true}}', 4, 53, 'write "include"'),
     ("a number as a text", RULE % '{"status": "200"}', 2, 64, "write 200 without quotes"),
     ("a number with a fraction", FETCH % '{"wait": 1.0}', 4, 24, "write 1, without a fraction"),
     ("a number that is too great", RULE % '{"status": 2000}', 2, 64, "write a number from 100 to 999"),
@@ -60,5 +61,12 @@ NO_SCENARIO = [
     ("a key of format 2", '{"format": 1, "documents": [], "body_limit": 9}', 1, 32, 'write "format": 2'),
     ("a template that is none", FETCH % '{"fetch": {"url": "/${id}"}}', 4, 33, "${id} is no template"),
     ("a condition that is none", FETCH % '{"if": ["OK"], "then": []}', 4, 22, 'write ["ok"], ["error"]'),
+    ("a recording", '{"log": {"version": "1.2", "entries": []}}', 1, 1, "this is a recording (HAR), and no scenario"),
+    ("headers of a server", SERVER % '{"origin": "https://b.test", "headers": [], "rules": []}', 2, 43,
+     "it belongs in a rule of a server"),
+    ("a page without its scheme", '{"format": 1, "documents": [{"url": "localhost:3000", "script": []}]}', 1, 37,
+     'write "http://localhost:3000"'),
+    ("a known host as a text", '{"format": 1, "hsts": ["b.test"], "documents": []}', 1, 24,
+     'write {"host": "b.test", "subdomains": true, "until": 31536000}'),
     ("a URL as a known host", '{"format": 1, "hsts": [{"host": "https://b.test", "subdomains": true, "until": 9}], "documents": []}', 1, 33, 'write "b.test"'),
 ]

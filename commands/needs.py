@@ -35,8 +35,8 @@ def items_of(value):
 
 
 def merged(value, more, as_names, known=None):
-    """A list with more items, each once, and what is no token cut into those in it, as far as they are known. Names have no
-    case."""
+    """A list with more items, each once, and what is no token cut into those in it, as far as they are known. Names
+    have no case."""
     found, there = {}, []
     for item in items_of(value):
         pieces = [item] if TOKEN.fullmatch(item) else TOKEN.findall(item)
@@ -153,6 +153,8 @@ class Needs:
         """All of it in two sentences."""
         asked, own = (", ".join(told(head, *pair) for pair in pairs)
                       for head, pairs in ((self.asked, self.of_preflight()), (self.own, self.of_own())))
+        if not self.is_preflighted():  # once the request lacks what is to be left out of it
+            return ["the answer to %s needs %s%s%s" % (self.method, own, self.known(), self.where_trusted(self.own))]
         return ["the answer to OPTIONS needs a status of 200 to 299, %s%s" % (asked, self.where_trusted(self.asked)),
                 "the answer to %s needs %s%s%s" % (self.method, own, self.known(), self.where_trusted(self.own))]
 

@@ -9,7 +9,8 @@ WORDS = ("closed", "full", "hang", "reset", "broken", "stalled")
 
 
 class Peer:
-    """`kind` is what it answers (bytes), a word for what else it does, an address that is none, or None for no route."""
+    """`kind` is what it answers (bytes), a word for what else it does, an address that is none, or None for no
+    route."""
 
     def __init__(self, kind):
         self.kind = kind

@@ -1,5 +1,5 @@
-"""What the words of bin/ask come to for a page: which of the headers a script can set, what a browser sends in the place
-of the others, and what a request that was copied as cURL says of its page."""
+"""What the words of bin/ask come to for a page: which of the headers a script can set, what a browser sends in the
+place of the others, and what a request that was copied as cURL says of its page."""
 import base64
 
 import fiorrudda
@@ -8,6 +8,8 @@ from commands import guards
 from commands.ask_words import KINDS, Wrong
 from commands.names import CORS_LOADS
 from commands.scenario import joined, origin_of
+from commands.slips import of_cookies
+from commands.stray_words import OWN_WORD
 
 OWN = "a browser sends its own"
 CACHE = "a browser's cache adds it"
@@ -135,6 +137,8 @@ class Said:
                           "shell" % name)
             if not value:
                 self.note("`%s` is sent without a value" % name)
+            if name in self.given.glued:
+                self.note("the URL behind `%s:` is sent as the value of that header%s" % (name, OWN_WORD))
         hints = [name for name, _ in self.headers if name.lower() in HINTS]
         if hints and self.is_copied and self.is_foreign():
             self.note("the browser may have added %s by itself (client hints), which asks for no preflight: leave out "
@@ -169,6 +173,8 @@ class Said:
         if copied:
             self.note("`Cookie` is taken as --cookie")
         self.cookies = [*given.cookie, *given.pasted, *copied]
+        for note in filter(None, map(of_cookies, self.cookies)):
+            self.note(note)
         self.credentials = given.credentials
         went_along = copied or given.pasted or given.is_curl and given.cookie
         if went_along and self.is_foreign() and not self.load and self.credentials is None:
@@ -192,8 +198,9 @@ def pairs_of(given, body):
     if given.user is not None:
         secret = base64.b64encode(given.user.encode("utf-8", "surrogateescape")).decode("ascii")
         pairs.append(("Authorization", "Basic " + secret))
-    if given.is_curl and body is not None and not any(name.lower() == "content-type" for name, _ in pairs):
-        pairs.append(("Content-Type", "application/x-www-form-urlencoded"))  # as curl does
+    kind = given.body_type or ("application/x-www-form-urlencoded" if given.is_curl else None)
+    if kind and body is not None and not any(name.lower() == "content-type" for name, _ in pairs):
+        pairs.append(("Content-Type", kind))  # as curl does
     return pairs
 
 

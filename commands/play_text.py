@@ -1,5 +1,5 @@
-"""Reads the text of a play, as docs/rules/printed-text.md has it: the documents with their events, each with its lines, and
-the history. What is no play is refused with its line."""
+"""Reads the text of a play, as docs/rules/printed-text.md has it: the documents with their events, each with its lines,
+and the history. What is no play is refused with its line."""
 import re
 
 from commands.names import RESPONSE_TYPES
@@ -36,9 +36,9 @@ class Event:
 
 
 class Result(Event):
-    """What a fetch or a load came to. `type` is that of the last result (docs/scenario.md); of an error or a fault there
-    are `number`, `name` and `detail`, and of a response `status`, `url`, `headers` and the `body`: how it ended, and its
-    bytes where it came whole."""
+    """What a fetch or a load came to. `type` is that of the last result (docs/scenario.md); of an error or a fault
+    there are `number`, `name` and `detail`, and of a response `status`, `url`, `headers` and the `body`: how it ended,
+    and its bytes where it came whole."""
 
     def __init__(self, line, found):
         super().__init__("result", line)
@@ -59,7 +59,8 @@ class Result(Event):
     def short(self):
         """As a test names it."""
         if self.is_refused():
-            return " ".join(filter(None, ["type-error" if self.is_fault else "", str(self.number), self.name, self.detail]))
+            first = "type-error" if self.is_fault else ""
+            return " ".join(filter(None, [first, str(self.number), self.name, self.detail]))
         return self.type if self.type == "loaded" else "%s %d" % (self.type, self.status)
 
 
@@ -243,7 +244,8 @@ def header_of(event, name):
 
 
 def is_preflight(event):
-    return event.kind == "send" and event.method == "OPTIONS" and header_of(event, "Access-Control-Request-Method") is not None
+    is_options = event.kind == "send" and event.method == "OPTIONS"
+    return is_options and header_of(event, "Access-Control-Request-Method") is not None
 
 
 def read(text):

@@ -4,7 +4,7 @@ servers that let every page read."""
 import json
 import re
 
-from commands import asking, csp, findings
+from commands import asking, csp, findings, slips
 from commands.case import LOCAL, SOCKETS
 from commands.explanations import explain, explain_policies, lines_of
 from commands.names import LOADS
@@ -16,6 +16,11 @@ KEYS = ("allowed", "blocked", "reported", "violating", "not violating")
 KEPT_OUT = ("blocked", "reported", "violating")
 LET_IN = ("allowed", "not violating")
 KINDS = ("fetch", *LOADS)
+# What people call what loads a URL, and what no directive is asked about.
+MEANT = {**dict.fromkeys(("ajax", "connect", "connect-src", "eventsource", "websocket", "xhr"), "fetch"),
+         **dict.fromkeys(("css", "stylesheet"), "style"), "js": "script", "picture": "image", "img-src": "image"}
+UNASKED = ("base", "embed", "form", "form-action", "frame", "frame-src", "iframe", "navigation", "object", "worker")
+WORDS = ("inline", "eval", "none", "self", "unsafe-eval", "unsafe-inline")  # no URLs
 ITEM = re.compile(r"(?:document ([0-9]{1,3}) )?(\S+) (\S.*)", re.S)
 EXAMPLE = '"script https://cdn.example/app.js"'
 # An origin whose server a scenario takes as it is written here: of a host that is no address and needs no coding.
@@ -46,10 +51,16 @@ def problem(text):
         return 'write what loads the URL before it, as in %s: one of %s' % (EXAMPLE, ", ".join(KINDS))
     _, kind, url = found.groups()
     if kind not in KINDS:
-        meant = nearest(kind, KINDS)
+        if kind.lower() in UNASKED:
+            return "no directive is asked here about what is loaded as %s, but about %s" % (kind, ", ".join(KINDS))
+        meant = MEANT.get(kind.lower()) or nearest(kind, KINDS)
         return 'nothing is loaded as "%s": write %s' % (kind, '"%s"' % meant if meant else "one of " + ", ".join(KINDS))
     if re.search(r"\s", url):
         return "a URL has no blanks: write %20 for one, and each URL in a text of its own"
+    if url.strip("'").lower() in WORDS or url[0] in "'*":
+        return "%s is a word of a policy, and no URL: write one, as in %s" % (url, EXAMPLE)
+    if slips.of_url(url):
+        return slips.of_url(url)
     scheme = scheme_of(url) if re.match(r"[A-Za-z][A-Za-z0-9+.-]*:", url) else ""
     if scheme in SOCKETS and kind != "fetch":
         return 'a WebSocket is asked for by a script: write "fetch %s"' % url
@@ -145,7 +156,8 @@ def parts_of(questions):
 
 
 def played(data, parts):
-    """Plays a document for each part. Pairs of a case, which is None where the run had ended before it, and its question."""
+    """Plays a document for each part. Pairs of a case, which is None where the run had ended before it, and its
+    question."""
     _, _, told = asking.played(json.dumps(scenario_of(data, parts)).encode("utf-8"))
     cases = {(case.fetch.document.number, case.fetch.number): case for case in told.cases}
     return [(cases.get((number, index)), question)

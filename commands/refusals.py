@@ -1,5 +1,5 @@
-"""Why a scenario, or a test, is refused: the line, the column, and in a sentence what is wrong there and what to change; with
-the words that may stand there and what the schema says."""
+"""Why a scenario, or a test, is refused: the line, the column, and in a sentence what is wrong there and what to
+change; with the words that may stand there and what the schema says."""
 import difflib
 import json
 import re
@@ -20,12 +20,18 @@ ONLY_THE_PROGRAM = [
 FAMILIAR = {"uri": "url", "href": "url", "src": "url", "type": "kind", "withcredentials": "credentials",
             "sleep": "wait", "delay": "wait", "times": "repeat", "loop": "repeat", "data": "body", "code": "status",
             "status_code": "status", "verb": "method", "target": "path", "response": "rules", "commands": "script",
-            "steps": "script", "pages": "documents", "version": "format", "cookie": "cookies", "host": "origin"}
+            "steps": "script", "pages": "documents", "version": "format", "cookie": "cookies", "host": "origin",
+            # of a test
+            "status": "result", "error": "result", "comes": "result", "headers": "sees", "visible": "sees",
+            "requests": "sent", "way": "why", "reason": "why"}
 OWNERS = {"server": "a server", "rule": "a rule of a server", "fetch": "the fetch", "load": "the load",
           "document1": "a document", "document2": "a document", "format1": "the scenario", "format2": "the scenario",
           "host": "a known host"}
 TYPES = {"object": "an object", "array": "a list", "string": "a text", "integer": "a whole number", "boolean": "true or false"}
 GIVEN = {"object": "an object", "list": "a list", "string": "a text"}
+
+
+MOST_ALSO = 5  # problems besides the first that are told
 
 
 class Refusal:
@@ -48,7 +54,7 @@ class Refusal:
                 *("  " + line for line in ["place: " + self.place, *self.more])]
 
     def data(self):
-        return {"line": self.line, "column": self.column, "place": self.place, "sentence": self.sentence, "more": self.more}
+        return {name: getattr(self, name) for name in ("line", "column", "place", "sentence", "more")}
 
 
 def of_fault(text, fault):
@@ -63,6 +69,7 @@ def of_place(text, root, place, schema):
     if near:
         refusal = of_problem(text, near[0], schema)
         refusal.place = place
+        refusal.more += also(text, [one for one in problems if one not in near], near, schema)
         return refusal
     sentence = next((sentence for form, sentence in ONLY_THE_PROGRAM if re.search(form, place)), "this is refused here")
     return Refusal(text, node.start, place, sentence)
@@ -71,6 +78,14 @@ def of_place(text, root, place, schema):
 def of_problem(text, problem, schema):
     sentence = SENTENCES[problem.kind](problem, schema)
     return Refusal(text, problem.node.start, problem.place, sentence, more_of(problem))
+
+
+def also(text, others, told, schema):
+    """Lines for the other problems, each once, so that all can be mended at once: without keys that are missing where
+    one is unknown, which may be a misspelt one."""
+    is_misspelt = any(one.kind == "unknown" for one in [*told, *others])
+    own = [of_problem(text, one, schema) for one in others if one.kind != "missing" or not is_misspelt][:MOST_ALSO]
+    return list(dict.fromkeys("also %d:%d: %s" % (one.line, one.column, one.sentence) for one in own))
 
 
 def is_near(one, other):
@@ -128,7 +143,9 @@ def unknown_key(problem, schema):
     if problem.is_of("with_headers"):
         return 'the key "%s" is unknown here: a request stands so, {"request": "PUT /x", "has": {"Cookie": true}}' % (
             problem.name)
-    owner = next((OWNERS[one["is"]] for one in schema.owners(problem.name) if one["is"] in OWNERS), None)
+    owners = [OWNERS[one["is"]] for one in schema.owners(problem.name) if one["is"] in OWNERS]
+    is_of_server = problem.path[:1] == ["servers"] and OWNERS["rule"] in owners
+    owner = OWNERS["rule"] if is_of_server else next(iter(owners), None)
     if problem.name == "body_limit" or problem.name == "top":
         return 'the key "%s" is of format 2: write "format": 2' % problem.name
     if owner is not None:
@@ -192,6 +209,12 @@ def change_to_object(node, problem):
     if node.kind == "string" and problem.path and problem.path[-1] in ("fetch", "load"):
         kind = '"kind": "image", ' if problem.path[-1] == "load" else ""
         return 'write {%s"url": %s}' % (kind, shown(node.value))
+    if node.kind == "string" and problem.path[:1] == ["hsts"]:
+        host = re.sub(r"^[a-z]+://|[/:].*$", "", str(node.value).lower())
+        return 'write {"host": %s, "subdomains": true, "until": 31536000}' % shown(host)
+    if node.kind == "list" and problem.path[-1:] in (["sees"], ["has"]):
+        names = [one.value for one in node.items if isinstance(one.value, str)] or ["X-Total"]
+        return "write {%s}" % ", ".join("%s: true" % shown(name) for name in names)[:200]
     if node.kind == "list" and len(node.items) == 1:
         return "take the brackets away"
     return "write its keys and values between { and }"
@@ -208,11 +231,15 @@ def other_word(problem, schema):
     told = given.text or GIVEN[given.kind]
     texts = [one for one in problem.wanted if isinstance(one, str) and one]
     meant = nearest(given.value, texts) if given.kind == "string" and texts else None
+    if problem.path[-1:] == ["credentials"] and given.value in (True, False):
+        return '%s is none of the words that may stand here: write %s' % (
+            told, '"include"' if given.value else '"omit"')
     if problem.path and problem.path[-1] == "format":
         return "%s is no format: write 1, or 2" % told
     if meant is not None:
         return "%s is none of the words that may stand here: write %s" % (told, shown(meant))
-    return "%s is none of the words that may stand here: write one of %s" % (told, ", ".join(map(shown, texts or problem.wanted)))
+    listed = ", ".join(map(shown, texts or problem.wanted))
+    return "%s is none of the words that may stand here: write one of %s" % (told, listed)
 
 
 def other_number(problem, schema):
@@ -236,6 +263,10 @@ def other_form(problem, schema):
         return "this is no value of a header: write it as a text, or true where any will do"
     if problem.is_of("request") or problem.is_of("sent"):
         return 'this is no request: write "PUT /x", or {"request": "PUT /x", "has": {"Cookie": true}}'
+    if problem.path[-1:] == ["upgraded"]:
+        return "these are no URLs: write one, a list of them, or [] where there is no upgrade"
+    if problem.is_of("urls"):
+        return 'these are no URLs: write each behind what loads it, such as "script https://cdn.example/app.js"'
     if problem.is_of("outcome"):
         return 'this is none of the forms that may stand here: write a result in words, or {"result": "read"}'
     commands = [key for key in keys if key in ("fetch", "load", "wait", "repeat", "if")]
@@ -256,6 +287,8 @@ def other_text(problem, schema):
     for name, advice in ADVICE.items():
         if problem.is_of(name):
             return advice(value, problem)
+    if value == "" and path[:1] == ["expect"]:
+        return "this text is empty: write what is meant, or leave its key out"
     if path[-1] in ("url", "top"):
         return advice_on_url(value)
     if path[-1] == "host":
@@ -277,7 +310,8 @@ def advice_on_origin(value, problem):
         return "an origin here is of http or https: write %s" % shown("https://" + host.lower() + (port or ""))
     right = scheme.lower() + "://" + host.lower() + ("" if port in (None, ":", default) else port)
     wrong = [text for text, holds in [
-        ("the %s at its end" % rest, rest), ("its user name", user), ("the port that its scheme has anyhow", port == default),
+        ("the %s at its end" % rest, rest), ("its user name", user),
+        ("the port that its scheme has anyhow", port == default),
         ("capital letters", (scheme + host).lower() != scheme + host)] if holds]
     return "an origin is written without %s: write %s" % (" and ".join(wrong) or "this", shown(right))
 
@@ -290,7 +324,8 @@ def advice_on_host(value):
 
 def advice_on_header(value, part):
     if part == 0:
-        return "a header's name has no blank, colon or line end: write %s" % shown(re.sub(r"[^!#$%&'*+\-.^_`|~0-9A-Za-z]", "", value) or "X-A")
+        name = re.sub(r"[^!#$%&'*+\-.^_`|~0-9A-Za-z]", "", value)
+        return "a header's name has no blank, colon or line end: write %s" % shown(name or "X-A")
     return "a header's value has no blank at its ends, and no line end or zero byte: write %s" % shown(
         re.sub(r"[\r\n\0]+", " ", value).strip(" \t"))
 
@@ -301,8 +336,13 @@ def advice_on_template(value, problem):
 
 
 def advice_on_url(value):
+    host = re.match(r"(localhost|[\w.-]*\.[\w.-]*|\[[\da-f:]+\]):\d", value, re.I)
+    if host:  # where a scheme stands else
+        scheme = "http://" if re.match(r"localhost|[\d.]+$|\[", host.group(1), re.I) else "https://"
+        return "the scheme is missing in this URL: write %s" % shown(scheme + value)
     if re.match(r"[A-Za-z][A-Za-z0-9+.-]*:", value):
-        return "a document's URL is of http or https: write %s" % shown(re.sub(r"^[A-Za-z0-9+.-]+:/*", "https://", value))
+        url = re.sub(r"^[A-Za-z0-9+.-]+:/*", "https://", value)
+        return "a document's URL is of http or https: write %s" % shown(url)
     return "a document's URL is a whole one: write %s" % shown(
         "https://" + value.lstrip("/") if re.match(r"/*[a-z0-9-]+\.", value) else "https://a.test/" + value.lstrip("/"))
 

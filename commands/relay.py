@@ -1,7 +1,8 @@
 """Passes the connections of a play on to the real servers, and keeps what each of them answered.
 
-For each address of the scenario's routes it listens at a port of the loopback, and the play is led there. How a connection
-ended is passed on: closed is closed, and what failed is reset. A server that is silent for too long is given up."""
+For each address of the scenario's routes it listens at a port of the loopback, and the play is led there. How a
+connection ended is passed on: closed is closed, and what failed is reset. A server that is silent for too long is given
+up."""
 import re
 import selectors
 import socket
@@ -15,7 +16,8 @@ CONNECT = 10  # seconds
 
 
 class Connection:
-    """One request and its answer, as bytes; `link` says how it went: done, refused, unreached, unknown-name, hang, reset."""
+    """One request and its answer, as bytes; `link` says how it went: done, refused, unreached, unknown-name, hang,
+    reset."""
 
     def __init__(self, address):
         self.address = address

@@ -11,8 +11,9 @@ WORDS = ["read", "refused", "no-verdict"] + TYPES + NETWORK_ERRORS + FAULTS
 
 def negated(wanted):
     """Whether a wanted result is any but the one that follows, and that one."""
-    word, _, rest = wanted.partition(" ")
-    return (True, rest) if word == "not" and rest else (False, wanted)
+    words = wanted.split()
+    is_negated = words[:1] == ["not"] and len(words) > 1
+    return is_negated, " ".join(words[is_negated:])
 
 
 def is_met(wanted, result):

@@ -52,7 +52,8 @@ def played(scenario, word="play"):
 
 def ran(scenario, word):
     """The program's status, what it printed, and its complaints. That it builds first, for minutes, is told at once."""
-    with subprocess.Popen([program(), word], stdin=subprocess.PIPE, stdout=subprocess.PIPE, stderr=subprocess.PIPE) as process:
+    pipe = subprocess.PIPE
+    with subprocess.Popen([program(), word], stdin=pipe, stdout=pipe, stderr=pipe) as process:
         heard = []
         complaints, process.stderr = process.stderr, None
         listener = threading.Thread(target=listen, args=(complaints, heard))

@@ -6,7 +6,8 @@ from urllib.parse import urljoin, urlsplit
 from commands.names import CORS_LOADS
 
 MOST_COMMANDS = 16384
-FETCH = {"method": "GET", "mode": "cors", "credentials": "same-origin", "redirect": "follow", "headers": [], "body": None,
+FETCH = {"method": "GET", "mode": "cors", "credentials": "same-origin", "redirect": "follow", "headers": [],
+         "body": None,
          "integrity": ""}
 TEMPLATE = re.compile(r"\$\{(status|type|url|body|header:([^}]*))\}")
 DEFAULT_PORTS = {"http": 80, "https": 443}
@@ -39,8 +40,8 @@ def joined(url, base):
 
 
 class Command:
-    """A fetch or a load that a script made: `options` are its keys, with what stands for those that are missing; `url` is
-    its text after templates; `path` leads to it; `waited` is how many seconds the script had waited by then."""
+    """A fetch or a load that a script made: `options` are its keys, with what stands for those that are missing; `url`
+    is its text after templates; `path` leads to it; `waited` is how many seconds the script had waited by then."""
 
     def __init__(self, path, kind, given, last, waited=0):
         self.path = path
@@ -65,7 +66,8 @@ def load_options(given):
     attribute = given.get("crossorigin")
     cors = attribute is not None or given["kind"] in CORS_LOADS
     include = attribute == "use-credentials" or not cors
-    return {**FETCH, "mode": "cors" if cors else "no-cors", "credentials": "include" if include else "same-origin", **given}
+    mode, credentials = "cors" if cors else "no-cors", "include" if include else "same-origin"
+    return {**FETCH, "mode": mode, "credentials": credentials, **given}
 
 
 def filled(text, last):
@@ -98,7 +100,8 @@ def holds(condition, last):
 
 
 class Walk:
-    """Goes through a script as the program does: `step` gives the command of the next fetch or load, by the last result."""
+    """Goes through a script as the program does: `step` gives the command of the next fetch or load, by the last
+    result."""
 
     def __init__(self, script, path):
         self.last = None
@@ -163,9 +166,14 @@ class Scenario:
             found.setdefault(one["origin"], index)
         return found
 
+    @functools.cached_property
+    def origins_twice(self):
+        """The origins of which a server stands behind the first one."""
+        return {one["origin"] for index, one in enumerate(self.servers()) if self.server_of(one["origin"]) != index}
+
     def server_like(self, origin):
-        """The number of an origin's server; where it has none that of the other scheme, else of another one of its host,
-        or None."""
+        """The number of an origin's server; where it has none that of the other scheme, else of another one of its
+        host, or None."""
         scheme, _, rest = origin.partition("://")
         others = self.origins_by_host.get(urlsplit(origin).hostname, [])
         near = [origin, ("http://" if scheme == "https" else "https://") + rest, *others]

@@ -1,5 +1,5 @@
-"""Checks a tree of json_text by a JSON Schema, as far as those of schema/ use one, and tells what does not fit: where, what
-may stand there, and what the schema says of it. Whole numbers are looked at as they are written: 1.0 is none."""
+"""Checks a tree of json_text by a JSON Schema, as far as those of schema/ use one, and tells what does not fit: where,
+what may stand there, and what the schema says of it. Whole numbers are looked at as they are written: 1.0 is none."""
 import json
 import re
 
@@ -8,9 +8,9 @@ KINDS = {"object": "object", "array": "list", "string": "string", "integer": "nu
 
 
 class Problem:
-    """What does not fit. `place` is as the program tells it: keys and numbers after slashes, of a key that does not belong
-    the place of its object. `kind` is unknown, missing, type, word, number, length, text, form or beside; `schemas` are
-    those that hold at the place, and `name` is the key that is about."""
+    """What does not fit. `place` is as the program tells it: keys and numbers after slashes, of a key that does not
+    belong the place of its object. `kind` is unknown, missing, type, word, number, length, text, form or beside;
+    `schemas` are those that hold at the place, and `name` is the key that is about."""
 
     def __init__(self, kind, node, path, schemas, name=None, wanted=None):
         self.kind = kind
@@ -72,8 +72,8 @@ class Schema:
 
 
 class Check:
-    """One check of a tree. Whether a node fits a form is kept: each form around it asks again, so that of commands inside
-    each other each level would double the time."""
+    """One check of a tree. Whether a node fits a form is kept: each form around it asks again, so that of commands
+    inside each other each level would double the time."""
 
     def __init__(self, schema):
         self.schema = schema
@@ -176,7 +176,8 @@ class Check:
         for one in self.schema.linked(form):
             if node.kind == "object" and any(key.value in one.get("required", []) for key, _ in node.members):
                 return True
-            first = one["const"][:1] if "const" in one else [part.get("const") for part in one.get("prefixItems", [])[:1]]
+            parts = one.get("prefixItems", [])[:1]
+            first = one["const"][:1] if "const" in one else [part.get("const") for part in parts]
             if node.kind == "list" and node.items and first and is_equal(node.items[0], first[0]):
                 return True
             if node.kind not in ("object", "list") and one.get("type") and is_of_type(node, one["type"]):

@@ -1,16 +1,36 @@
-"""Words of bin/ask that came apart between a browser and the shell: headers whose quotes are missing, are no quotes of
-a shell, or stand twice. They are refused before anything is asked, and what may be a secret is not said again."""
+"""Words of bin/ask that are none, or that came apart between a browser and the shell: headers whose quotes are
+missing, are no quotes of a shell, or stand twice. They are refused before anything is asked, and what may be a secret
+is not said again."""
+import difflib
 import re
 
+# What stands here for words that people take from elsewhere.
+MEANT = {
+    **dict.fromkeys(("--origin", "--page", "-from"), "write --from PAGE"), "--csp": "write --policy",
+    **dict.fromkeys(("--body", "--post-data"), "write --data"), "--post": "write --method POST",
+    **dict.fromkeys(("--with-credentials", "--withcredentials"), "write --credentials include"),
+    **dict.fromkeys(("-x", "--proxy"), "no proxy is asked; leave it out"),
+    **dict.fromkeys(("-e", "--cert", "--key"), "no certificate of a client is shown; leave it out"),
+    "--cacert": "name the authority before the command, by SSL_CERT_FILE=FILE",
+    "--oauth2-bearer": "write -H 'Authorization: Bearer ..'", "--url-query": "write it into the URL",
+    **dict.fromkeys(("-t", "--upload-file"), "write --method PUT --data-binary @FILE"),
+}
 CURLY = re.compile("[\u2018\u2019\u201a\u201c\u201d\u201e]")
 SCHEME = re.compile(r"\s*[A-Za-z][A-Za-z0-9+.\-]*:(?!\d)")  # and no host with its port
 PATH = re.compile(r"/|(?:[\w\-]+\.)*[\w\-]+(?::\d+)?/")  # of a URL whose beginning is missing
 NAME = re.compile(r"[A-Za-z\-]{1,40}(?=[\s=]|$)")
 OF_HEADERS = re.compile("(?:-H|--header=)(.+)", re.DOTALL)
+# A URL with nothing before it, or right behind what is no place for one.
+WHOLE_URL = re.compile(r"\s*(?:https?|wss?)://|.*[\w*/+]https?://", re.I)
+# Headers whose values have no URL in such a place.
+WITHOUT_URLS = re.compile(r"accept(?:-\w+)?|authorization|cache-control|connection|content-(?:length|type)|dnt|if-.*|"
+                          r"pragma|priority|range|sec-.*|te", re.I)
 WITH_A_VALUE = ("-d", "--data", "--data-raw", "--data-binary", "--data-ascii", "--data-urlencode", "-b", "--cookie",
                 "-A", "--user-agent", "-u", "--user")
 CMD = "copied for cmd: copy as cURL (bash)"
+METHODS = ("GET", "HEAD", "POST", "PUT", "PATCH", "DELETE", "OPTIONS")
 BLANK = "a word is a blank: take the blank behind the \\ at a line's end away"
+OWN_WORD = ": is a quote or a blank missing before the URL? One that is to be asked is a word of its own"
 WHOLE = "write it whole, as https://api.example/x"
 # What stands before a secret, and is none.
 KINDS_OF_SECRETS = ("basic", "bearer", "digest", "dpop", "negotiate", "token")
@@ -26,6 +46,10 @@ def of_header(word):
         if first is None:
             return "a header has no colon: write it as 'Name: value'"
         return "the header `%s` has no colon: write it as '%s: value'" % (first.group(), first.group())
+    if name.strip().lower() in ("http", "https", "ws", "wss") and value.startswith("//"):
+        return "a URL stands where a header belongs: let it stand as a word of its own, and write -H 'Name: value'"
+    if WITHOUT_URLS.fullmatch(name.strip()) and WHOLE_URL.match(value):
+        return "the header `%s` has a URL as its value%s" % (name.strip(), OWN_WORD)
     if '"' in name or name.startswith("'") and value.endswith("'"):
         return "the header `%s` has a quote in its name: take the inner quotes away" % name.strip()
     return None
@@ -37,10 +61,45 @@ def of_curly(word):
     return "\u201c and \u201d are no quotes of a shell: write \""
 
 
-def of_urls(words, urls, is_curl):
-    """What is wrong in the words that stand as URLs, or None. `words` are all words as they came."""
+def with_values(words, known):
+    """The words, where a value that begins with a dash, as a body may, is joined to the word that takes it."""
+    found, ahead = [], iter(words)
+    for word in ahead:
+        value = next(ahead, None) if word in WITH_A_VALUE else None
+        is_text = value is not None and len(value) > 1 and value[0] == "-" and value not in known
+        found += [word + ("=" if word[1] == "-" else "") + value] if is_text else [word, value]
+    return [word for word in found if word is not None]
+
+
+def of_dashes(words, known):
+    """What is to be said of a long word that has one dash alone, or None."""
+    word = next((one for one in words if len(one) > 4 and one[:1] == "-" != one[1:2] and "-" + one in known), None)
+    return "`%s` has one dash: write -%s" % (word, word) if word else None
+
+
+def of_unknown(unknown, known):
+    """What is to be said of words that are none here, by those that are; None where there is no unknown one. What
+    stands behind them may be a secret."""
+    word = next((one.partition("=")[0] for one in unknown if one.startswith("-")), None)
+    if word is None:
+        return "a word is too much: name each URL once" if unknown else None
+    meant = MEANT.get(word.lower())
+    if meant is None:
+        near = difflib.get_close_matches("--" + word.lstrip("-"), known, 1, 0.8)
+        meant = "write %s" % near[0] if near else "--help lists them"
+    return "`%s` is no word here: %s" % (word, meant)
+
+
+def of_copy(urls):
+    """What is wrong in what was copied from a browser for something else than bash, or None."""
     if any(url.strip().startswith("^") for url in urls):
         return CMD
+    is_other = urls and re.match(r"(?:await )?fetch\(|Invoke-WebRequest$|\$session", urls[0])
+    return "copied for another program: copy as cURL (bash)" if is_other else None
+
+
+def of_urls(words, urls, is_curl):
+    """What is wrong in the words that stand as URLs, or None. `words` are all words as they came."""
     curly = next((url for url in urls if CURLY.match(url) or CURLY.search(url[-1:])), None)
     if curly is not None:
         return of_curly(curly)
@@ -59,6 +118,12 @@ def of_urls(words, urls, is_curl):
 
 
 def of_no_url(url, before, header, is_among_others):
+    if url in ("-4", "-6"):
+        return "`%s` is no word here: leave it out" % url
+    if url.upper() in METHODS:
+        return "`%s` is no URL: write --method %s" % (url, url.upper())
+    if before == "--json":
+        return "--json prints JSON here, and takes no value: write -H 'Content-Type: application/json' --data '{..}'"
     if header is not None:
         name = header.partition(":")[0].strip()
         if url.lower() in KINDS_OF_SECRETS:
@@ -87,6 +152,15 @@ def behind(words, url):
         if SCHEME.match(word) and not word.endswith(":") and not is_value(words, at):
             return None, None
     return None, None
+
+
+def glued(words):
+    """The names of the headers whose value is a URL right behind the colon, as where a quote or a blank is missing."""
+    texts = [text for word, after in zip(words, [*words[1:], ""])
+             for text in ([after] if word in ("-H", "--header") else OF_HEADERS.findall(word))]
+    named = [text.partition(":") for text in texts]
+    return [name.strip() for name, _, value in named
+            if re.match(r"https?://", value, re.I) and name.strip().lower() not in ("origin", "referer")]
 
 
 def is_value(words, at):

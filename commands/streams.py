@@ -87,8 +87,8 @@ def fault(error):
 
 
 def run(main, broken=2):
-    """Ends the program with the status of `main`, also where a pipe is closed or Ctrl-C is pressed; with the status `broken`, and
-    a line, where the command itself is wrong."""
+    """Ends the program with the status of `main`, also where a pipe is closed or Ctrl-C is pressed; with the status
+    `broken`, and a line, where the command itself is wrong."""
     try:
         try:
             status = main()

@@ -1,5 +1,5 @@
-"""A play with the answers of the servers and the explanations between its lines. Each line that is not of the play begins
-with `<` or `#`, so the play is what is left without them."""
+"""A play with the answers of the servers and the explanations between its lines. Each line that is not of the play
+begins with `<` or `#`, so the play is what is left without them."""
 import functools
 
 from commands import answers, known_hosts
@@ -92,7 +92,8 @@ def case_data(case):
     result = case.result
     return {
         "document": case.fetch.document.number, case.fetch.name.split()[0]: case.fetch.number,
-        "line": case.fetch.line, "url": case.command.url, "verdict": case.verdict, "result": result.short(), "type": result.type,
+        "line": case.fetch.line, "url": case.command.url, "verdict": case.verdict, "result": result.short(),
+        "type": result.type,
         "status": result.status, "headers": result.headers,
         "body": None if result.body is None else result.body.decode("utf-8", "replace"),
         "requests": [request_data(request, answer) for request, answer in case.exchanges],
@@ -113,7 +114,8 @@ def scripted(scenario, play):
 
 
 class Recorded:
-    """The answers that a relay has kept, for the requests of a play: each request takes the first connection that carried it."""
+    """The answers that a relay has kept, for the requests of a play: each request takes the first connection that
+    carried it."""
 
     def __init__(self, scenario, relay):
         self.scenario = scenario

@@ -171,7 +171,8 @@ def worst(statuses):
 
 
 def verdict(cases, was_navigation=False):
-    """The status and the sentence for the fetches of a question: those of the last, or of one whose connection failed."""
+    """The status and the sentence for the fetches of a question: those of the last, or of one whose connection
+    failed."""
     failed = next((case for case in cases if any(answer.link in FAILED for _, answer in case.exchanges)), None)
     case = failed or cases[-1]
     result = case.result

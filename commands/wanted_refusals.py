@@ -1,12 +1,15 @@
 """What bin/expect says of a fetch that a test wants refused, and that came to something else: why it was refused
 otherwise, or which headers let it in; and no change that would let it through."""
-from commands import edits, policy_questions, results, wanted_requests
-from commands.case import Request
+import json
+
+from commands import edits, policy_questions, results, verdicts, wanted_requests
 from commands.explanations import PREFLIGHTED, TABLE
 from commands.needs import ALLOW_CREDENTIALS, ALLOW_HEADERS, ALLOW_METHODS, ALLOW_ORIGIN
 from commands.play_text import header_of, is_preflight
 
 POLICIES = ("4", "19")
+BY_NO_RULE = (7, 12, 22)  # what an empty answer without CORS headers comes to, where the scenario has no rule
+NO_SERVER = ("head/no-server", "head/host-as-path")
 UNANSWERED = ("link/hang", "link/reset", "link/tls-port", "head/nothing", "head/tls")
 GOES_ON = "; many servers send back whatever Origin they get"
 
@@ -32,7 +35,7 @@ def untested(case, wanted):
     where the test names the way."""
     is_refused = is_any(wanted) and case.result.is_refused() and case.explanation is not None
     said = untold(case) if is_refused and wanted.get("why") != case.explanation.way else ""
-    return "%s: %s" % (said, case.explanation.condition) if said else ""
+    return f"{said}: {gap_of(case) or case.explanation.condition}" if said else ""
 
 
 def untold(case):
@@ -41,15 +44,42 @@ def untold(case):
     if way in UNANSWERED:
         unanswered = "no server has answered" if is_first else "the last request was not answered"
         return unanswered if case.is_net else ""
-    if way.startswith("link/") or way == "head/no-server":
+    if way.startswith("link/") or way in NO_SERVER:
         return "no server was asked" if is_first else "the last request came to no server"
-    return "no rule has answered" if way == "cors/no-rule" and not is_for_other_method(case) else ""
+    return "no rule has answered" if gap_of(case) else ""
 
 
-def is_for_other_method(case):
-    """Whether it is a preflight that has no rule, and the request behind it has one: so the server has no CORS."""
-    return is_preflight(case.request) and case.scenario.rule_of(
-        case.answer.server, Request(case.asked_url, case.method)) is not None
+def gap_of(case):
+    """The rule that the scenario lacks, where that is what refuses a fetch, be it of its preflight; else an empty
+    text."""
+    if not (case.has_no_rule and case.result.is_refused() and case.result.number in BY_NO_RULE):
+        return ""
+    request = case.request
+    asked = f"{request.method} {request.target}"
+    return f"the scenario's server {request.origin} has no rule for {asked}; {case.nearest_rule}"
+
+
+def to_fill(case):
+    """What to add to the scenario that lacks a rule or a server, or what the test says where that is meant."""
+    asked, way = case.request, case.explanation.way
+    if way == "head/host-as-path":
+        missing = case.explanation.change
+    elif way == "head/no-server":
+        missing = f"add a server of {asked.origin}, with rules that answer as the real one does"
+    elif gap_of(case):
+        rule = json.dumps({"method": asked.method, "path": asked.target, "status": 404})
+        missing = f"add a rule that answers as the real server does, such as {rule}"
+    else:
+        return []
+    return [f'change: {missing}; or add "why": "{way}" in the test, where the gap is meant']
+
+
+def by_gap(case, wanted, is_one_of_many):
+    """A warning of a test that names a result which comes of a rule that the scenario lacks, and not that way."""
+    is_named = number_of(wanted) == str(case.result.number) and "why" not in wanted
+    if is_named and gap_of(case):
+        yield (f"warning: {verdicts.named(case, is_one_of_many)}: no rule has answered, so that no server has refused "
+               f"it: {gap_of(case)}; {to_fill(case)[0].removeprefix('change: ')}")
 
 
 def results_of(name):
@@ -81,7 +111,7 @@ def lines(case, wanted, failed):
     own = case.explanation.reasons() if case.explanation else []
     if untested(case, wanted):
         is_of_link = case.explanation.way.startswith("link/")
-        own = ["change: " + case.explanation.change, own[-1]] if is_of_link else own[1:]
+        own = ["change: " + case.explanation.change, own[-1]] if is_of_link else [*to_fill(case), own[-1]]
     for policy in case.policies_told:
         if policy.enforced or "violations" in failed:
             own += policy.reasons() if policy.enforced else policy.lines()

@@ -2,7 +2,7 @@
 which says of the headers too what the request has and lacks."""
 import re
 
-from commands import edits
+from commands import edits, test_words
 from commands.case import Request
 from commands.needs import TOKEN
 
@@ -14,7 +14,7 @@ EXAMPLE = '{"request": "PUT /x", "has": {"Cookie": true}}'
 def problem(text):
     """What is wrong with a request's text, in a sentence; None where nothing is."""
     if FORM.fullmatch(text):
-        return None
+        return test_words.request_problem(text)
     return 'a request is a method and a target, such as "PUT /x"; with headers it is an object, such as ' + EXAMPLE
 
 

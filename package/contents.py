@@ -56,7 +56,7 @@ VIEW = ["page.html", "page.py", "telling.py", "view.css"]
 COMMANDS = ["answers.py", "asking.py", "auditing.py", "case.py", "changes.py", "csp.py", "doubts.py", "edits.py",
             "expectations.py", "explanations.py", "findings.py", "guards.py", "json_text.py", "known_hosts.py",
             "names.py", "needs.py", "notes.py", "play_text.py", "policy_questions.py", "refusals.py", "relay.py",
-            "results.py", "running.py", "scenario.py", "schema.py", "streams.py", "told.py", "urls.py", "verdicts.py",
-            "wanted_refusals.py", "wanted_requests.py", "whole_policies.py"]
+            "results.py", "running.py", "scenario.py", "schema.py", "slips.py", "streams.py", "test_words.py", "told.py",
+            "urls.py", "verdicts.py", "wanted_refusals.py", "wanted_requests.py", "whole_policies.py"]
 PLAYGROUND = ["page.html", "playground.css", "documents.py", "gate.py", "markdown.py", "page.py", "player.py",
               "peers.py", "questions.py", "serve.py", "turns.py"]

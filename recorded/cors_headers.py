@@ -51,7 +51,7 @@ def suggested(judged: Judged, origin: str, changes: Changes) -> dict[str, Any]:
     own = of_origin(judged, origin, changes)
     findings = [finding for _, parts in own for _, findings in parts for finding in findings]
     search = Search(changes, list(runs_of(own, changes)))
-    search.run()
+    search.run(own)
     groups = groups_of(search)
     for group in groups:
         prune(group, search)
@@ -206,7 +206,7 @@ def notes_of(group: Group, search: Search) -> Iterator[str]:
         before = [one["replaces"] for one in headers if one["name"] == ALLOW_ORIGIN]
         yield from (f"pages of {value} go on to get theirs: answer by the request's Origin"
                     for value in before if value and origin_of(value) == value and value not in moved)
-        yield from [FOR_ALL] if (ALLOW_ORIGIN, "*") in lacks else []
+        yield from [FOR_ALL] if Lack(ALLOW_ORIGIN, "*") in lacks else []
     more = {(lack.name, lack.value): None for key in group.all_keys for lack in search.more[key]
             if lack not in search.lacks[key] and lack.name in (ALLOW_ORIGIN, ALLOW_CREDENTIALS)}
     if more:

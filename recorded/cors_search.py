@@ -10,7 +10,7 @@ from commands.needs import ALLOW_HEADERS, ALLOW_METHODS, ALLOW_ORIGIN, KEPT_METH
 from commands.play_text import is_preflight
 from recorded import verdicts
 from recorded.changes import Changes, Pairs
-from recorded.differences import DID_NOT, Judged
+from recorded.differences import DID_NOT, WORKED, Judged
 from recorded.lacks import LISTS, STATUS, Key, Lack, Lacks, value_of
 from recorded.model import Entry
 from recorded.plays import played
@@ -80,6 +80,19 @@ def runs_of(judged: Judged, changes: Changes) -> Iterator[Run]:
             yield run if is_alike else Run(part, supposed, run.findings, places, True)
 
 
+def runs_without_star(judged: Judged, changes: Changes) -> Iterator[Run]:
+    """The requests that pass now by a `*` in whose place names are to stand."""
+    if not any(lack.is_named for lacks in changes.lacks.values() for lack in lacks):
+        return
+    for part, findings in [one for _, parts in judged for one in parts]:
+        for supposed in dict.fromkeys(finding.supposed for finding in findings if finding.verdict in WORKED):
+            cases = played(part, supposed, changes).cases
+            numbers = [number for number, finding in enumerate(findings) if finding.verdict in WORKED
+                       and finding.supposed == supposed and is_refused(cases.get(number), finding)]
+            if numbers:
+                yield Run(part, supposed, [findings[number] for number in numbers], numbers, True)
+
+
 # ---- what a play lacks
 
 def lacking(case: Case) -> Iterator[Lack]:
@@ -90,12 +103,12 @@ def lacking(case: Case) -> Iterator[Lack]:
     elif number == 8:
         yield Lack(STATUS, "204")
     elif number == 9:
-        yield Lack(case.bad_item[0], "")
+        yield Lack(case.bad_item[0], "", case.includes)
     elif number == 10:
-        yield Lack(ALLOW_METHODS, case.method)
+        yield Lack(ALLOW_METHODS, case.method, case.includes)
     else:
         there, is_free = [name.lower() for name in case.names], "*" in case.names and not case.includes
-        yield from (Lack(ALLOW_HEADERS, name) for name in names
+        yield from (Lack(ALLOW_HEADERS, name, case.includes) for name in names
                     if name not in there and not (is_free and name != "authorization"))
 
 
@@ -112,10 +125,12 @@ def of_check(case: Case) -> Iterator[Lack]:
 
 
 def added(there: tuple[Lack, ...], more: Iterable[Lack]) -> tuple[Lack, ...]:
-    """All of it. Where one request wants `*` and another its origin, the origin stays."""
+    """All of it. Where one request wants `*` and another its origin, the origin stays; and of items that names stand in
+    the place of `*`."""
     for lack in more:
-        same = [one for one in there if one.name == lack.name] if lack.name not in LISTS else []
-        if lack in there or same and lack.value == "*":
+        is_item = lack.name in LISTS
+        same = [one for one in there if one.name == lack.name and (one.value == lack.value or not is_item)]
+        if lack in there or same and (not lack.is_named if is_item else lack.value == "*"):
             continue
         there = (*(one for one in there if one not in same), lack)
     return there
@@ -140,8 +155,11 @@ class Search:
         self.more: Lacks = {}  # what they lack, had the requests credentials
         self.passed: set[int] = set()
 
-    def run(self) -> None:
+    def run(self, judged: Judged) -> None:
         for run in self.runs:
+            self.fill(run, self.lacks)
+        for run in list(runs_without_star(judged, self.changed())):
+            self.runs.append(run)
             self.fill(run, self.lacks)
         for key, lacks in self.lacks.items():
             self.lacks[key] = (*lacks, *self.of_vary(key, lacks))

@@ -4,7 +4,7 @@ from __future__ import annotations
 
 from typing import Any, Iterable, NamedTuple, Optional
 
-from commands.needs import ALLOW_HEADERS, ALLOW_METHODS, VARY, merged
+from commands.needs import ALLOW_HEADERS, ALLOW_METHODS, VARY, items_of, merged
 
 Key = tuple[str, str, str]  # origin, method, request target
 STATUS = "status"
@@ -12,10 +12,12 @@ LISTS = {ALLOW_METHODS: False, ALLOW_HEADERS: True, VARY: True}  # whether the i
 
 
 class Lack(NamedTuple):
-    """A header with its value, an item of a list, or a status. An empty item wants no more than a list of tokens."""
+    """A header with its value, an item of a list, or a status. An empty item wants no more than a list of tokens.
+    `is_named` says that names are to stand in the place of a `*`, which is no wildcard with credentials."""
 
     name: str
     value: str
+    is_named: bool = False
 
 
 Lacks = dict[Key, tuple[Lack, ...]]
@@ -31,7 +33,8 @@ def with_lack(value: Optional[str], lack: Lack) -> str:
     """The value of its header then."""
     if lack.name not in LISTS:
         return lack.value
-    return merged(value, [lack.value] if lack.value else [], LISTS[lack.name])
+    kept = ", ".join(item for item in items_of(value) if item != "*") if lack.is_named else value
+    return merged(kept, [lack.value] if lack.value else [], LISTS[lack.name])
 
 
 def given(rule: dict[str, Any], lacks: Iterable[Lack]) -> dict[str, Any]:

@@ -244,7 +244,8 @@ VALUES = [
 
 def misspelt(field):
     is_known = field.name in OTHERS or is_answer_header(field)
-    return None if is_known else nearest(field.name, NAMES)
+    short = {name.lower().partition("control-")[2]: name for name in NAMES if name != AGE}
+    return None if is_known else nearest(field.name, NAMES) or short.get(field.name.removeprefix("x-"))
 
 
 def is_request_header(field):

@@ -9,6 +9,8 @@ from commands.lints.reading import POLICY, REPORT_ONLY
 OBSOLETE_NAMES = ("x-content-security-policy", "x-content-security-policy-report-only", "x-webkit-csp",
                   "x-webkit-csp-report-only")
 REPORTING = ("report-to", "report-uri")
+WORDS_OF = {"report-uri": "`/csp`", "report-to": "`csp`, which the header Reporting-Endpoints gives a URL",
+            "require-trusted-types-for": "`'script'`", "webrtc": "`'block'`"}
 IDLE = (*REPORTING, *grammar.OBSOLETE)  # directives that restrict nothing
 CHECK_IN_BROWSER = "open the page in a browser, and look for violations in its console"
 # What a play does not look at, and what it takes to check it.
@@ -82,7 +84,8 @@ def does_nothing(policy):
 
 def meant_names(policy):
     """The names of directives that are meant by misspelt ones and by those beyond ASCII, which is another lint."""
-    return [one.name if one.is_known else meant_directive(one.name, policy.effective)
+    return [one.name if one.is_known else (with_sign(one) or "").partition(" ")[0] or
+            meant_directive(one.name, policy.effective)
             for one in policy.directives if not (one.is_known and one.text.isascii())]
 
 
@@ -138,8 +141,15 @@ def meant_directive(name, there):
 
 
 def with_sign(directive):
-    bare = directive.name.rstrip(":=")
-    return bare != directive.name and bare in grammar.DIRECTIVES and bare
+    found = grammar.WITH_SIGN.fullmatch(directive.written)
+    if found is None or found.group(1).lower() not in grammar.DIRECTIVES:
+        return None
+    return " ".join(filter(None, [found.group(1).lower(), found.group(2)]))
+
+
+def lone_sign(directive):
+    """A sign that stands alone between the name and the words."""
+    return directive.rest[:1] in (["="], [":"]) and directive.rest[0]
 
 
 def source_as_directive(directive):
@@ -156,8 +166,8 @@ def beyond_ascii(directive):
 
 
 def needs_words(directive):
-    takes_some = directive.has_sources or directive.name in (*REPORTING, "require-trusted-types-for", "webrtc")
-    return takes_some and not directive.rest
+    example = "`'none'` where nothing is let through" if directive.has_sources else WORDS_OF.get(directive.name)
+    return None if directive.rest else example
 
 
 def takes_none(directive):
@@ -239,6 +249,7 @@ def obsolete(name):
 DIRECTIVES = [
     Lint("csp/directive-with-sign", "a directive", with_sign,
          "`{it.written}` is no directive: a blank alone stands behind its name", "write `{meant}`"),
+    Lint("csp/sign-alone", "a directive", lone_sign, "`{meant}` in `{it.name}` is no word", "take it out"),
     Lint("csp/source-as-directive", "a directive", source_as_directive,
          "a semicolon ends a directive, so `{it.written}` stands as the name of another",
          "take the semicolon before it out"),
@@ -250,7 +261,7 @@ DIRECTIVES = [
     Lint("csp/directive-twice", "a directive", lambda directive: directive.is_again,
          "`{it.name}` stands twice in this policy, and the first one counts", "write all its words into one"),
     Lint("csp/no-words", "a directive", needs_words, "`{it.name}` has no words",
-         "write them, such as `'none'` where nothing is let through; or take it out"),
+         "write them, such as {meant}; or take it out"),
     Lint("csp/needless-words", "a directive", takes_none, "`{it.name}` takes no words",
          "take out what stands behind it; or put a semicolon before it"),
     Lint("csp/none-beside-others", "a directive", none_beside_others,

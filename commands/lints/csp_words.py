@@ -91,7 +91,7 @@ WORDS = [
 # ---- quotes
 
 def bare_keyword(word):
-    return word.lower in grammar.KEYWORDS and quoted(word.lower)
+    return grammar.MEANT.get(word.lower) or word.lower in grammar.KEYWORDS and quoted(word.lower)
 
 
 def bare_nonce(word):
@@ -125,11 +125,11 @@ def quoted_with_more(word):
 
 def unknown_keyword(word):
     inner = word.inner
-    if inner is None or not re.fullmatch(r"[\w-]*", inner) or inner == "localhost":
+    if inner is None or inner in ("*", "localhost") or re.search(r"[.:]", inner):
         return None
     if inner.lower() in (*grammar.KEYWORDS, "unsafe-allow-redirects") or is_like_proof(inner):
         return None
-    return write(quoted(nearest(inner, grammar.KEYWORDS)))
+    return write(grammar.MEANT.get(inner.lower()) or quoted(nearest(inner, grammar.KEYWORDS)))
 
 
 def is_like_proof(inner):
@@ -149,7 +149,8 @@ def redirects_keyword(word):
 
 
 def bare_scheme(word):
-    return word.lower in ("http", "https", "ws", "wss", "data", "blob") and word.lower + ":"
+    is_scheme = word.lower in ("http", "https", "ws", "wss", "data", "blob", "filesystem", "mediastream")
+    return is_scheme and word.lower + ":"
 
 
 QUOTING = [
@@ -349,7 +350,28 @@ def no_word(word):
     if word.is_directive or word.inner is not None or word.policy.is_pasted or grammar.SCHEME.fullmatch(word.text):
         return None
     path = word.host and word.host.group("path")
-    return word.host is None or bool(path and not grammar.PATH.fullmatch(path))
+    if word.text in ("=", ":") and word.text == word.directive.rest[0]:  # csp/sign-alone tells it
+        return None
+    is_none = word.host is None or bool(path and not grammar.PATH.fullmatch(path))
+    return is_none and write(meant_source(word), ANY_SOURCE)
+
+
+ANY_SOURCE = "write a host, such as `https://cdn.example`, a scheme or a keyword"
+
+
+def meant_source(word):
+    """What is surely meant by what is no word: a scheme without its colon, a URL with a user name, a path, a keyword
+    in other signs."""
+    page, text = word.policy.headers.origin or "", word.text
+    inner = re.sub(r"%27|&#39;?|&quot;?|[()\[\]{}<>]", "", text)
+    if inner.lower() in grammar.KEYWORDS:
+        return quoted(inner.lower())
+    for form, meant in ((r"(https?|wss?)//+(.+)", r"\1://\2"), (r"//(.+)", r"%s://\1" % word.policy.headers.scheme),
+                        (r"([a-z]+://)[^/@]*@(.+)", r"\1\2"), (r"\.?(/.*)", page + r"\1")):
+        found = re.fullmatch(form, text, re.I)
+        if found and grammar.HOST.fullmatch(found.expand(meant)):
+            return found.expand(meant)
+    return None
 
 
 URLS = [
@@ -390,7 +412,7 @@ URLS = [
          "of an ancestor the origin alone is looked at, so `{it.text}` with its path matches none", "write `{meant}`"),
     Lint("csp/source-twice", "a source", is_again, "`{it.text}` stands twice in `{it.directive.name}`", "take one out"),
     Lint("csp/no-word", "a source", no_word, "by the grammar of CSP 3 `{it.text}` is no word, and matches nothing",
-         "write a host, such as `https://cdn.example`, a scheme or a keyword", is_last=True),
+         "{meant}", is_last=True),
 ]
 
 TABLE = WORDS + QUOTING + PROOFS + URLS

@@ -22,6 +22,7 @@ OBSOLETE = {
 # Names that only miss what stands behind them, and are too short to come near to one by their letters.
 SHORT = {"font": "font-src", "img": "img-src", "image": "img-src", "images": "img-src"}
 DIRECTIVES = SOURCES + OTHERS + tuple(OBSOLETE)
+WITH_SIGN = re.compile(r"([a-z-]+)[:=]+(.*)", re.I)  # a directive's name with a sign behind it
 NO_WORDS = ("block-all-mixed-content", "upgrade-insecure-requests")
 
 # Keywords without their quotes. 'none' is no source, and stands alone.
@@ -29,6 +30,9 @@ CODE = ("inline-speculation-rules", "report-sample", "trusted-types-eval", "unsa
         "unsafe-inline", "wasm-unsafe-eval")
 REPORTS = ("report-sample", "report-sha256", "report-sha384", "report-sha512")
 KEYWORDS = CODE + REPORTS[1:] + ("none", "self", "strict-dynamic")
+# What people write for sources that have another name.
+MEANT = {"all": "*", "any": "*", "eval": "'unsafe-eval'", "inline": "'unsafe-inline'",
+         "unsafe-wasm-eval": "'wasm-unsafe-eval'", "wasm-eval": "'wasm-unsafe-eval'"}
 TRUSTED = ("allow-duplicates", "none")
 SANDBOX = ("allow-downloads", "allow-forms", "allow-modals", "allow-orientation-lock", "allow-pointer-lock",
            "allow-popups", "allow-popups-to-escape-sandbox", "allow-presentation", "allow-same-origin", "allow-scripts",

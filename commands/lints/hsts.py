@@ -6,8 +6,8 @@ from collections import namedtuple
 
 from commands.lints.entry import ANSWER, DOCUMENT, Lint, nearest
 from commands.lints.hsts_values import (FIELD, KNOWN, MONTH, QUOTED, QUOTES, SPELT, YEAR, age_of, amount_in, amount_of,
-                                        as_unicode, changed_quoted, has, is_ignored, names, parts, raw_age, seconds,
-                                        whole)
+                                        as_unicode, changed_quoted, has, is_ignored, known_name, names, parts, raw_age,
+                                        seconds, whole)
 from commands.lints.reading import is_address
 
 HEADER = "Strict-Transport-Security"
@@ -192,7 +192,7 @@ def unknown_part(field):
     """A directive that is nearly a known one, which is not there."""
     own = names(field.value)
     for name in own[:64] if counts(field) and seconds(field.value) else []:
-        meant = nearest(name, KNOWN) if name not in KNOWN and re.fullmatch("[a-z_-]+", name) else None
+        meant = known_name(name) if name not in KNOWN and re.fullmatch("[a-z_-]+", name) else None
         if meant and meant not in own:
             return Meant(SPELT[meant], whole(field.value))
     return None

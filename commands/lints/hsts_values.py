@@ -142,11 +142,16 @@ def amount_of(value):
     return amount or next(filter(None, (amount_in(own.strip(QUOTES)) for own in near)), None)
 
 
+def known_name(word):
+    """The name of a directive that is meant by a word, or None."""
+    return "includesubdomains" if word == "subdomains" else nearest(word, KNOWN)
+
+
 @functools.lru_cache(64)
 def more_of(value):
     """The other directives that were meant."""
     words = [word.lower() for word in re.findall(r"[A-Za-z_-]+", readable(value))[:64]]
-    meant = {nearest(word, KNOWN) for word in words}
+    meant = set(map(known_name, words))
     return [SPELT[name] for name in KNOWN[1:] if name in meant or any(name in word for word in words)]
 
 

@@ -73,7 +73,7 @@ WORDS = {
         "scheme-alone", "star-behind-scheme", "one-slash", "localhost-without-scheme", "ancestor-path",
         "report-over-http")], as_meant),
     **dict.fromkeys(["csp/" + name for name in ("quote-missing", "unknown-keyword", "sandbox-word", "trusted-word",
-                                              "more-behind-scheme")],
+                                              "more-behind-scheme", "no-word")],
                     as_written),
     **dict.fromkeys(["csp/" + name for name in (
         "unsafe-allow-redirects", "nonce-elsewhere", "unsafe-elsewhere", "strict-dynamic-elsewhere", "source-twice",
@@ -88,7 +88,11 @@ WORDS = {
 # ---- directives: those that stand in the place of one, each as its name and its words
 
 def renamed(directive, meant):
-    return [[meant, *directive.rest]]
+    return [[*meant.split(), *directive.rest]]
+
+
+def without_sign(directive, meant):
+    return [[directive.written, *directive.rest[1:]]]
 
 
 def as_named(directive, meant):
@@ -147,7 +151,7 @@ def no_plugins(directive, meant):
 
 
 DIRECTIVES = {
-    "csp/directive-with-sign": renamed, "csp/not-ascii": in_ascii, "csp/unknown-directive": as_named,
+    "csp/directive-with-sign": renamed, "csp/sign-alone": without_sign, "csp/not-ascii": in_ascii, "csp/unknown-directive": as_named,
     "csp/no-words": with_none, "csp/needless-words": alone, "csp/none-beside-others": without("'none'"),
     "csp/star-beside-others": star_alone, "csp/unsafe-inline-ignored": without("'unsafe-inline'"),
     "csp/unsafe-hashes-alone": without("'unsafe-hashes'"), "csp/report-only-ignores": taken_out,
@@ -309,8 +313,8 @@ def meant_name(name, part, there):
     """The name of the directive that is meant by one that is none, or is not ASCII. `there` are those of the policy."""
     if name in grammar.DIRECTIVES:
         return None if part.isascii() else name
-    bare = name.rstrip(":=")
-    return bare if bare in grammar.DIRECTIVES else meant_directive(name, there)
+    found = grammar.WITH_SIGN.fullmatch(name)
+    return found.group(1) if found and found.group(1) in grammar.DIRECTIVES else meant_directive(name, there)
 
 
 def of_words(directive):

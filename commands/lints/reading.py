@@ -66,8 +66,8 @@ class Budget:
 
 class Headers:
     """The headers of a document, of an answer or of a fetch: `url` is that of the document, or what was asked for.
-    `asks` are the requests of the document, or those that get the answer; `preflights` those whose preflights do. `known`
-    are the hosts that are known (HSTS) anyhow: pairs of a name, and whether what is below it is known too."""
+    `asks` are the requests of the document, or those that get the answer; `preflights` those whose preflights do.
+    `known` are the hosts that are known (HSTS) anyhow: pairs of a name, and whether what is below it is known too."""
 
     def __init__(self, where, pairs, url, asks=(), preflights=(), is_real=False, known=()):
         self.where = where

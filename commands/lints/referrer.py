@@ -35,13 +35,19 @@ def old_word(field):
 def other_sign(field):
     """Several words with other signs than commas between them."""
     found = next((item for item in words(field) if re.search(r"[\s;|]", item.strip(QUOTES))), None)
-    return found and ", ".join(re.split(r"[\s;|]+", found.strip("; ")))
+    parts = re.split(r"[\s;|]+", found.strip("; ")) if found else []
+    return found and not is_spaced(found) and ", ".join(parts)
+
+
+def is_spaced(word):
+    """Whether it is a policy with blanks in the place of its dashes."""
+    return " " in word and "-".join(word.split()) in KNOWN
 
 
 def unknown_word(field):
     """A word that is none; of a list in which others are known one that is surely meant for another."""
     for word in words(field):
-        if word not in KNOWN and word not in OLD and re.fullmatch("[a-z_-]+", word):
+        if word not in KNOWN and word not in OLD and (re.fullmatch("[a-z_-]+", word) or is_spaced(word)):
             meant = nearest(word, KNOWN)
             if meant or not is_heard(field):
                 return write(meant, "write one of the eight policies, such as `strict-origin-when-cross-origin`")
