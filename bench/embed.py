@@ -3,7 +3,7 @@
 given, and the proved fetchplay, as crates/fetchplay/out/fetchplay.
 
 It prints the instructions, by callgrind, that one more fetch of the same kind takes: those of the library's calls, as
-embed/play makes them, and those of all that fetchplay does for it."""
+embed/play makes them; those of the one call that plays it all, fiorrudda_play; and those of all that fetchplay does."""
 import json
 import pathlib
 import re
@@ -54,11 +54,15 @@ def main():
     built = pathlib.Path(sys.argv[1] if sys.argv[1:] else TOP / "out")
     with tempfile.TemporaryDirectory() as folder:
         room = pathlib.Path(folder)
-        made = ["cc", "-std=gnu11", "-O2", "-g", f"-I{built}/include", TOP / "embed/play.c", built / "lib/libfiorrudda.a"]
-        subprocess.run([*made, "-o", room / "play"], check=True)
+        for name in ("play", "plays"):
+            made = ["cc", "-std=gnu11", "-O2", "-g", f"-I{built}/include", TOP / f"embed/{name}.c"]
+            subprocess.run([*made, built / "lib/libfiorrudda.a", "-o", room / name], check=True)
         flat = lambda text: subprocess.run([TOP / "embed/flat"], input=text, capture_output=True, check=True).stdout
         for name, asked in KINDS.items():
             print(f"{name}: calls of the library", one_more([room / "play"], asked, r"fiorrudda_\w+", room, flat), flush=True)
+        for name, asked in KINDS.items():
+            told = one_more([room / "plays", "/dev/stdin"], asked, "fiorrudda_play", room, lambda text: text)
+            print(f"{name}: fiorrudda_play", told, flush=True)
         for program in sys.argv[2:]:
             for name, asked in KINDS.items():
                 told = one_more([program, "play"], asked, "PROGRAM TOTALS", room, lambda text: text)

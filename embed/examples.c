@@ -155,6 +155,18 @@ static void whole(void) {
     // end
 }
 
+static void played(void) {
+    // example play
+    code = fiorrudda_play(T("{\"format\": 1, \"documents\": [{\"url\": \"https://app.example/\","
+        " \"headers\": [[\"Content-Security-Policy\", \"img-src 'self'\"]],"
+        " \"script\": [{\"load\": {\"kind\": \"image\", \"url\": \"https://cdn.example/a.png\"}}]}]}"),
+        room, sizeof room, &len);
+    if (code == FIORRUDDA_OK) fwrite(room, 1, len, stdout); // what fetchplay prints: a policy forbids it
+    code = fiorrudda_play(T("{\"format\": 1, \"documents\": [{\"url\": \"/\"}]}"), room, sizeof room, &len);
+    if (code == FIORRUDDA_NO) printf("refused at %.*s\n", (int)len, (char *)room); // /documents/0/url
+    // end
+}
+
 int main(void) {
     cors();
     lists();
@@ -166,7 +178,9 @@ int main(void) {
     requests();
     books();
     whole();
-    puts("\nexamples: ok");
+    putchar('\n');
+    played();
+    puts("examples: ok");
     fiorrudda_handle *all[] = {&headers, &policies, &client, &request, &fetch, &book, &found};
     for (size_t at = 0; at < sizeof all / sizeof *all; at++) fiorrudda_free(all[at]);
     return 0;

@@ -57,6 +57,39 @@ static uint32_t book_of_text(void) {
         "0 600 1 1 34:a-key-of-thirty-bytes-or-more.test 1:o 1:u 3:x-a\n"), &line, &reason);
 }
 
+// The text of a play, or the place of a refusal: the same as with all memory, or nothing is written, nor its length.
+static uint32_t played(const uint8_t *scenario, size_t size, uint32_t wanted) {
+    static uint8_t known[4096], text[sizeof known];
+    size_t known_len, was = allowed;
+    allowed = SIZE_MAX;
+    HOLDS(fiorrudda_play(scenario, size, known, sizeof known, &known_len) == wanted);
+    allowed = was;
+    len = 77;
+    memset(text, 0xEE, sizeof text);
+    uint32_t code = fiorrudda_play(scenario, size, text, sizeof text, &len);
+    if (code == wanted) {
+        HOLDS(len == known_len && !memcmp(text, known, len));
+        return FIORRUDDA_OK;
+    }
+    HOLDS(len == 77);
+    for (size_t at = 0; at < sizeof text; at++) HOLDS(text[at] == 0xEE);
+    return code;
+}
+
+#define ALLOWS "[[\"Access-Control-Allow-Origin\",\"*\"],[\"Access-Control-Allow-Methods\",\"PUT\"]]"
+#define SERVERS "\"servers\":[{\"origin\":\"https://b.example\",\"rules\":[{\"status\":200,\"headers\":" ALLOWS "}]}]"
+#define POLICY "\"headers\":[[\"Content-Security-Policy\",\"connect-src 'self' https://b.example\"]]"
+#define PUT "\"method\":\"PUT\",\"body\":\"a body of more than thirty bytes\""
+#define ASKED "{\"fetch\":{\"url\":\"https://b.example/${status}\"," PUT "}}"
+#define DOCUMENT "{\"url\":\"https://a.example/\"," POLICY ",\"script\":[{\"repeat\":2,\"do\":[" ASKED "]}]}"
+#define HOSTS "\"hsts\":[{\"host\":\"a-host-of-a-long-name.example\",\"subdomains\":true,\"until\":9}]"
+#define PLAYED "{\"format\":1," HOSTS "," SERVERS ",\"documents\":[" DOCUMENT "]}"
+#define REFUSED "{\"format\":1," SERVERS ",\"documents\":[{\"url\":\"/\"}]}"
+
+static uint32_t play(void) { return played(T(PLAYED), FIORRUDDA_OK); }
+static uint32_t play_none(void) { return played(T("{\"format\":1,\"documents\":[]}"), FIORRUDDA_OK); }
+static uint32_t play_refused(void) { return played(T(REFUSED), FIORRUDDA_NO); }
+
 static uint32_t essence(void) { return fiorrudda_essence(&headers, room, sizeof room, &len); }
 static uint32_t source_matches(void) { return fiorrudda_source_matches(T("https://a-host-of-a-long-name.example/p"), T("https://a-host-of-a-long-name.example/p"), T("https://a.example/"), 0); }
 
@@ -160,6 +193,7 @@ static const struct { const char *name; uint32_t (*call)(void); } calls[] = {
     {"known_host", known_host}, {"essence", essence}, {"source_matches", source_matches}, {"whole", whole},
     {"on_request", on_request}, {"unsafe_name", unsafe_name}, {"exposed_name", exposed_name},
     {"forbidden_header", forbidden_header}, {"book_text", book_text}, {"book_of_text", book_of_text},
+    {"play", play}, {"play_none", play_none}, {"play_refused", play_refused},
 };
 
 // What the header list and the book hold is as it was: told by calls that the refused ones are not.
@@ -187,7 +221,7 @@ int main(void) {
             HOLDS(code == FIORRUDDA_OK || code == FIORRUDDA_OUT_OF_MEMORY);
             HOLDS(code == FIORRUDDA_OK || calls[at].call == known_host || kept());
             HOLDS(code == FIORRUDDA_OK || fresh.at == NULL);
-            HOLDS(n < 1000);
+            HOLDS(n < 10000);
         }
         printf("memory: %s allocates %zu times\n", calls[at].name, n - 1);
         fiorrudda_free(&fresh);

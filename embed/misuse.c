@@ -168,10 +168,12 @@ WRITES(refused, refused_name, &held[CLIENT], &held[REQUEST], &held[LIST], 204)
 WRITES(text, text, &held[FETCH], FIORRUDDA_TEXT_ORIGIN, 0)
 WRITES(to_send, to_send, &held[FETCH])
 WRITES(book, book_text, &held[BOOK])
+WRITES(play, play, T("{\"format\": 1, \"documents\": [{\"url\": \"https://a.test/\", \"script\": []}]}"))
 
 static void rooms(void) {
     static uint32_t (*const writes[])(size_t) = {get_into, name_into, value_into, essence_into, unsafe_into, exposed_into, origin_into,
-        referrer_into, directive_into, url_into, preflight_into, refused_into, text_into, to_send_into, book_into};
+        referrer_into, directive_into, url_into, preflight_into, refused_into, text_into, to_send_into, book_into,
+        play_into};
     hold();
     for (size_t at = 0; at < sizeof writes / sizeof *writes; at++) {
         unwritten();
@@ -253,6 +255,8 @@ static void bytes(void) {
     IS(OK, fiorrudda_client_cookie(&held[CLIENT], PAGE, T("\xff")));
     IS(NO, fiorrudda_book_of_text(&made, T("\xff"), &line, &a));
     HOLDS(line == 1 && a == FIORRUDDA_REASON_NO_BOOK);
+    IS(NO, fiorrudda_play(T("\xff"), room, sizeof room, &len));
+    HOLDS(len == 4 && !memcmp(room, "json", 4));
     IS(OK, fiorrudda_request(&held[REQUEST], T("PUT"), T("/\xff")));
     faults(FIORRUDDA_FAULT_BAD_URL);
     IS(OK, fiorrudda_load(&held[REQUEST], FIORRUDDA_LOAD_IMAGE, BAD));

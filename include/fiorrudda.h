@@ -981,6 +981,27 @@ uint32_t fiorrudda_text(fiorrudda_handle *fetch, uint32_t which, size_t at, uint
 // FIORRUDDA_OK nothing is written.
 uint32_t fiorrudda_number(fiorrudda_handle *fetch, uint32_t which, uint64_t *number);
 
+// ---- A whole play of a scenario (docs/scenario.md)
+//
+//     code = fiorrudda_play(T("{\"format\": 1, \"documents\": [{\"url\": \"https://app.example/\","
+//         " \"headers\": [[\"Content-Security-Policy\", \"img-src 'self'\"]],"
+//         " \"script\": [{\"load\": {\"kind\": \"image\", \"url\": \"https://cdn.example/a.png\"}}]}]}"),
+//         room, sizeof room, &len);
+//     if (code == FIORRUDDA_OK) fwrite(room, 1, len, stdout); // what fetchplay prints: a policy forbids it
+//     code = fiorrudda_play(T("{\"format\": 1, \"documents\": [{\"url\": \"/\"}]}"), room, sizeof room, &len);
+//     if (code == FIORRUDDA_NO) printf("refused at %.*s\n", (int)len, (char *)room); // /documents/0/url
+
+// Plays a scenario over its own servers, from its own time on: its documents one after another, over one book, with
+// no thread. Writes the text that `fetchplay play` writes of it; where documents share the book, of one order in
+// which threads may play. The scenario is the bytes of its JSON. The same scenario gives the same text, so a caller
+// that has too little room may call again.
+//
+// FIORRUDDA_OK; FIORRUDDA_NO where the scenario is refused, and then `room` has the place: `json`, or the way from
+// the root to the value, as `/documents/0/url`; FIORRUDDA_TOO_SHORT where `room` has less than `len` bytes for
+// either; FIORRUDDA_OUT_OF_MEMORY. Except for FIORRUDDA_OK and FIORRUDDA_NO nothing is written to `room`, and with
+// FIORRUDDA_OUT_OF_MEMORY nothing to `len`.
+uint32_t fiorrudda_play(const uint8_t *scenario, size_t scenario_len, uint8_t *room, size_t room_len, size_t *len);
+
 #ifdef __cplusplus
 }
 #endif

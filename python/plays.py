@@ -118,12 +118,27 @@ def came(outcome, loads):
     return scripts.Last(outcome.kind, outcome.status, url, outcome.body if outcome.end == "whole" else None, tuple(outcome.headers))
 
 
-def of_one_document(folders):
-    """Plays of one document: the name, the scenario and the text. Of the gallery, and of folders of NAME.json and NAME.out."""
+def stored(folders):
+    """Stored plays: the name, the scenario's bytes, the text. Of the gallery, and of folders of NAME.json, NAME.out."""
     gallery = pathlib.Path(__file__).resolve().parent.parent / "gallery"
     pairs = [(it, it.parent / "play.txt") for it in sorted(gallery.glob("*/scenario.json"))]
     pairs += [(it, it.with_suffix(".out")) for folder in folders for it in sorted(pathlib.Path(folder).glob("*.json"))]
     for place, play in pairs:
-        scenario = json.loads(place.read_text(encoding="utf-8"))
+        yield str(place), place.read_bytes(), play.read_bytes().decode("latin-1")
+
+
+def of_one_document(folders):
+    """Those of one document, each scenario read."""
+    for name, written, text in stored(folders):
+        scenario = json.loads(written)
         if len(scenario["documents"]) == 1:
-            yield str(place), scenario, play.read_bytes().decode("latin-1")
+            yield name, scenario, text
+
+
+def in_turn(folders):
+    """Those in which the book is called for one document after another."""
+    for name, scenario, text in stored(folders):
+        history = text.rpartition("\nhistory\n")[2].splitlines()[:-1]
+        turns = [int(line.split(" ")[1]) for line in history]
+        if turns == sorted(turns):
+            yield name, scenario, text

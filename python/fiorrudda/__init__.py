@@ -1,4 +1,5 @@
-"""The rules of a browser's fetch, one call each, and whole fetches (`fiorrudda.whole`), over the C library of Fiorrudda.
+"""The rules of a browser's fetch, one call each, whole fetches (`fiorrudda.whole`), and whole plays of scenarios
+(`play`), over the C library of Fiorrudda.
 
 Texts are `str`, which is encoded as UTF-8, or `bytes`. A rule that cannot answer raises a `FiorruddaError`: the class says
 what was wrong with what was given. A `Headers`, `Book`, `Client`, `Request`, `Load`, `Policies` or `Fetch` is used by one
@@ -7,9 +8,10 @@ thread at a time; others may be used meanwhile, since the interpreter's lock is 
 """
 import ctypes
 import enum
+import json
 import os
 import pathlib
-from typing import Any, Callable, Iterable, List, NamedTuple, Optional, Sequence, Tuple, TypeVar, Union
+from typing import Any, Callable, Iterable, List, Mapping, NamedTuple, Optional, Sequence, Tuple, TypeVar, Union
 
 from .names import REQUEST_FAULTS
 
@@ -28,6 +30,7 @@ __all__ = [
     "NotABook",
     "NotAHeader",
     "NotAHost",
+    "NotAScenario",
     "NotAUrl",
     "NotAwaited",
     "NotHttp",
@@ -62,6 +65,7 @@ __all__ = [
     "origin",
     "parse_sts",
     "passes_cors_check",
+    "play",
     "preflight",
     "preflight_verdict",
     "referrer",
@@ -79,6 +83,7 @@ Text = Union[str, bytes]
 Thing = TypeVar("Thing")
 
 _OK, _NO, _TOO_SHORT = 0, 1, 4
+_PLAY_ROOM = 65536  # bytes that hold the text of most plays, so that these are played once
 
 
 class FiorruddaError(Exception):
@@ -143,6 +148,15 @@ class NotABook(FiorruddaError):
     def __init__(self, line: int, number: int) -> None:
         self.line, self.number, self.name = line, number, self.NAMES[number]
         super().__init__(f"line {line}: {self.name}")
+
+
+class NotAScenario(FiorruddaError):
+    """A scenario is refused: the place of the first refusal, `json` or the way from the root to the value, as
+    `/documents/0/url`."""
+
+    def __init__(self, place: str) -> None:
+        self.place = place
+        super().__init__(place)
 
 
 _ERRORS = {2: WrongHandle, 3: OutOfMemory, 5: NoSuchNumber, 6: NotAUrl, 7: NotHttp, 8: NotAHeader, 9: TooLate,
@@ -246,6 +260,7 @@ _CALLS = {
     "nosniff_blocked": _HELD * 2,
     "book_text": _HELD + _ROOM,
     "book_of_text": _HELD + _TEXT + [ctypes.POINTER(ctypes.c_uint64), ctypes.POINTER(ctypes.c_uint32)],
+    "play": _TEXT + _ROOM,
 }
 
 _lib = _library()
@@ -425,6 +440,25 @@ def parse_sts(field: Text) -> Optional[Sts]:
     if not _told(_lib.fiorrudda_sts(*_lent(field), age, subdomains)):
         return None
     return Sts(age.value, bool(subdomains.value))
+
+
+def play(scenario: Union[Text, Mapping[str, Any]]) -> str:
+    """Plays a scenario over its own servers, from its own time on, and gives the text that `fetchplay play` prints. Its
+    documents play one after another, over one book. The scenario is JSON, or the object that is written as such.
+    `NotAScenario` where it is refused."""
+    said = _lent(json.dumps(dict(scenario)) if isinstance(scenario, Mapping) else scenario)
+    length, size = ctypes.c_size_t(0), _PLAY_ROOM
+    while True:
+        room = ctypes.create_string_buffer(size)
+        code = _lib.fiorrudda_play(*said, room, size, length)
+        if code != _TOO_SHORT:
+            break
+        size = length.value
+    is_played = _told(code)
+    text = room.raw[:length.value].decode("latin-1")
+    if not is_played:
+        raise NotAScenario(text)
+    return text
 
 
 from .whole import (  # noqa: E402  the classes there stand on what is above

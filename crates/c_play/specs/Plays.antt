@@ -1,0 +1,38 @@
+-- What the call tells of a play.
+use Rattle.std.specs.Prelude.{◌≡◌, ℕ, List, Result, Ok, Err}
+use Rattle.value_text.specs.Texts.{Text}
+use Rattle.book_calls.specs.Entries.{AreInOrderFrom}
+use Rattle.book_calls.specs.declared.entry.Entry.{Entry}
+use Rattle.script_events.specs.declared.events.Transcript.{Transcript}
+use Rattle.script_reading.specs.declared.place.Place.{Place}
+use Rattle.script_scenarios.specs.declared.scenario.Scenario.{Scenario}
+use Rattle.play_definitions.specs.Plays.{IsPlay}
+use Rattle.play_text.specs.Text.{play_text}
+use Rattle.c_handle.specs.Codes.{IsWritten}
+use Rattle.c_handle.specs.declared.codes.TheConstants.{NO, OK, TOO_SHORT}
+
+-- The text is that of a play of the scenario, in whose history one document's entries stand after another's.
+pub record IsTextOfPlay (scenario : Scenario) (text : Text) : Type 0 where
+  pub transcripts : List Transcript
+  pub history : List Entry
+  pub is_play : IsPlay scenario transcripts history
+  pub in_order : AreInOrderFrom 0 history
+  pub text_is : text ≡ play_text transcripts history
+
+-- Such a text is written.
+pub record IsPrinted (scenario : Scenario) (room after : Text) (len code : ℕ) : Type 0 where
+  pub text : Text
+  pub of : IsTextOfPlay scenario text
+  pub written : IsWritten text room after len code
+
+-- The place is written, and the code tells that the scenario is refused.
+pub record IsRefusedAt (place room after : Text) (len code : ℕ) : Type 0 where
+  pub written : ℕ
+  pub is : IsWritten place room after len written
+  pub refused : written ≡ OK → code ≡ NO
+  pub short : written ≡ TOO_SHORT → code ≡ TOO_SHORT
+
+-- what is told of the scenario that the bytes are, or of the place at which they are refused
+abbrev pub IsPlayed : Result Scenario Place → Text → Text → ℕ → ℕ → Type 0
+IsPlayed (Ok scenario) = IsPrinted scenario
+IsPlayed (Err place) = IsRefusedAt place.text
