@@ -6,7 +6,7 @@ use Rattle.book_calls.specs.Entries.{HasTurnsFrom}
 use Rattle.audit_text.specs.Entries.{IsEntry}
 use Rattle.audit_text.specs.Histories.{Holds}
 use Rattle.audit_text.specs.Laws.{HoldsOne, PrintedHolds}
-use Rattle.play_isolation.specs.Laws.{IsToldOp, PlaysFew, PlaysTold}
+use Rattle.play_words.specs.Laws.{IsToldOp, PlaysFew, PlaysTold}
 use Rattle.play_definitions.specs.Plays.{by_rules, ways_to_servers}
 use Rattle.play_text.specs.Text.{play_text}
 use Rattle.script_scenarios.specs.declared.servers.Server.{Server}

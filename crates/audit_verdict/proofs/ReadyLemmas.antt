@@ -26,8 +26,8 @@ use Rattle.script_scenarios.specs.declared.document.Document.{Document}
 use Rattle.script_scenarios.specs.declared.scenario.Scenario.{Scenario}
 use Rattle.script_scenarios.specs.Urls.{is_document_url}
 use Rattle.script_scenarios.specs.Valid.{IsValid, IsValidDocument}
-use Rattle.play_isolation.specs.Given.{HasGiven, IsGiven}
-use Rattle.play_isolation.specs.Laws.{IsReady}
+use Rattle.play_words.specs.Given.{HasGiven, IsGiven}
+use Rattle.play_words.specs.Laws.{IsReady}
 
 -- ---- URLs
 

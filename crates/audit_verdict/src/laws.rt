@@ -3,8 +3,9 @@ ghost use Rattle.audit_verdict.specs.Laws as laws;
 
 use audit_text::{law_one_reading, law_printed};
 use link_traits::Link;
-use play_isolation::{law_few_calls, law_isolated, law_one_play, law_own_words};
+use play_isolation::{law_isolated, law_one_play};
 use play_seats::SimLink;
+use play_words::{law_few_calls, law_own_words};
 
 /// A law: the verdict is `Play` exactly where the text is that of a play of the scenario, with the history that the
 /// text holds; and in that play what each document sends and sees is what it would alone. The call does nothing.

@@ -1,17 +1,14 @@
 -- Laws of documents' runs, over every tape and every history: a run depends on the replies of the shared book and on
 -- what the document may learn of the answers alone; and the replies on what was done under the document's key, and
 -- noted of known hosts, alone (this project's own definition).
-use Rattle.std.specs.Prelude.{◌≡◌, ◌≤◌, ◌*◌, ◌^◌, ℕ, IsTrue, true, length, List, Some}
-use Rattle.play_text.specs.Plain.{IsPlainEvent, IsPlainTranscript}
-use Rattle.play_text.specs.Words.{has_words}
+use Rattle.std.specs.Prelude.{◌≡◌, ◌≤◌, ◌^◌, ℕ, true, List, Some}
 use Rattle.play_isolation.specs.Words.{AllByRecursion, Answering, AreValid, Book, Cookie, Document, Entry, InRange}
-use Rattle.play_isolation.specs.Words.{Input, IsPlay, IsPlayOver, IsTranscript, Legal, Made, Op, Play, Scenario}
-use Rattle.play_isolation.specs.Words.{Transcript, Way, document_client, document_run, entries_of, is_of_key, opening_book}
+use Rattle.play_isolation.specs.Words.{Input, IsPlay, IsPlayOver, IsTranscript, Legal, Made, Play, Scenario, Transcript}
+use Rattle.play_isolation.specs.Words.{Way, document_client, document_run, entries_of, is_of_key, opening_book}
 use Rattle.play_isolation.specs.Words.{replies_on, run_play, views_on}
 use Rattle.play_isolation.specs.Alone.{alone, pasts}
 use Rattle.play_isolation.specs.Apart.{apart, plan_of}
 use Rattle.play_isolation.specs.Calls.{PartAtReply, calls_in, document_calls}
-use Rattle.play_isolation.specs.Given.{HasGiven}
 use Rattle.play_isolation.specs.Isolated.{AllAreAlone, run_in, run_of}
 
 -- ---- runs over tapes
@@ -37,22 +34,6 @@ CallsInRange =
     → base ≤ 2 ^ 40
     → AllByRecursion (λ (call : Made). InRange call.op)
     (calls_in (run_play (document_run cookies base document) tape).events)
-
--- how many calls a document's run makes at most: 1,024 fetches make at most 126 each
-abbrev pub most_calls : ℕ
-most_calls = 129024
-
--- a document's run makes at most so many
-abbrev pub CallsFew : Type 0
-CallsFew =
-    (cookies : List Cookie) (base : ℕ) (document : Document) (tape : List Input)
-    → length (calls_in (run_play (document_run cookies base document) tape).events) ≤ most_calls
-
--- what a run of a document shows is plain where texts give its URLs: so each of its calls has words
-abbrev pub EventsPlain : Type 0
-EventsPlain =
-    (cookies : List Cookie) (base : ℕ) (document : Document) (tape : List Input) → HasGiven document
-    → AllByRecursion IsPlainEvent (run_play (document_run cookies base document) tape).events
 
 -- ---- runs in a history
 
@@ -143,35 +124,3 @@ WorldsAlike State Other =
     → views_on (plan_of (run_in scenario base document)) one.run_is.ran.tape
     ≡ views_on (plan_of (run_in other base document)) two.run_is.ran.tape
     → run_of transcript ≡ run_of different
-
--- ---- what is printed of plays
-
--- The texts of the document's URLs give them, and its script is valid.
-pub record IsReady (document : Document) : Type 0 where
-  pub given : HasGiven document
-  pub script : AreValid document.script
-
--- the op is in range and has words
-abbrev pub IsToldOp : Op → Type 0
-IsToldOp op = InRange op × IsTrue (has_words op)
-
--- Each transcript is plain, and the op of each entry of the history is in range and has words.
-pub record AreTold (transcripts : List Transcript) (history : List Entry) : Type 0 where
-  pub are_plain : AllByRecursion IsPlainTranscript transcripts
-  pub ops : AllByRecursion (λ (entry : Entry). IsToldOp entry.op) history
-
--- so are those of a play of such documents that begins at 2^40 seconds at the latest
-abbrev pub PlaysTold : Type 0 → Type 0
-PlaysTold State =
-    (by : Answering State) (scenario : Scenario) (base : ℕ) (olds news : List (Way State))
-    (transcripts : List Transcript) (history : List Entry) → base ≤ 2 ^ 40
-    → AllByRecursion IsReady scenario.documents → IsPlayOver by scenario base olds news transcripts history
-    → AreTold transcripts history
-
--- a play has at most so many entries for each document
-abbrev pub PlaysFew : Type 0 → Type 0
-PlaysFew State =
-    (by : Answering State) (scenario : Scenario) (base : ℕ) (olds news : List (Way State))
-    (transcripts : List Transcript) (history : List Entry)
-    → IsPlayOver by scenario base olds news transcripts history
-    → length history ≤ length scenario.documents * most_calls

@@ -19,22 +19,6 @@ pub fn law_own_calls()
     ensures range { laws.CallsInRange }
 {}
 
-/// A law: where texts give a document's URLs, each of its calls of the shared book has words, and nothing else that is
-/// printed of its run as it is has an LF, whatever comes of its acts. So in a play of such documents with valid scripts
-/// that begins at a time of 2^40 at most each transcript is plain, and the operation of each entry of the history is in
-/// range and has words. The call does nothing.
-pub fn law_own_words<L: Link>()
-    ensures events { laws.EventsPlain }
-    ensures plays { laws.PlaysTold L.State }
-{}
-
-/// A law: a document calls the shared book at most 129,024 times, whatever comes of its acts; so a play's history has at
-/// most that many entries for each document. The call does nothing.
-pub fn law_few_calls<L: Link>()
-    ensures runs { laws.CallsFew }
-    ensures plays { laws.PlaysFew L.State }
-{}
-
 /// A law: where a history is legal from an opening book and the calls of a document's run are its entries in it, the
 /// run is what the document would do alone: over what it may learn of the answers to its requests, each reply being
 /// that of the book after the call's past, which is what was noted of known hosts and what was learnt and cleared

@@ -4,6 +4,6 @@
 mod laws;
 
 pub use laws::{
-    law_alone, law_apart, law_few_calls, law_hidden, law_isolated, law_one_play, law_own_calls,
-    law_own_words, law_same_calls, law_two_worlds,
+    law_alone, law_apart, law_hidden, law_isolated, law_one_play, law_own_calls, law_same_calls,
+    law_two_worlds,
 };

@@ -24,12 +24,12 @@ use Rattle.play_text.specs.Plain.{IsLine, IsPlainEvent, IsPlainTranscript}
 use Rattle.play_text.specs.Words.{has_words}
 use Rattle.play_isolation.specs.Calls.{calls_in, calls_of}
 use Rattle.play_isolation.specs.Isolated.{run_in}
-use Rattle.play_isolation.specs.Laws.{IsReady, IsToldOp, PlaysTold}
-use Rattle.play_isolation.proofs.FetchWordLemmas.{word-line}
-use Rattle.play_isolation.proofs.MadeWordLemmas.{client-word}
+use Rattle.play_words.specs.Laws.{IsReady, IsToldOp, PlaysTold}
+use Rattle.play_words.proofs.FetchWordLemmas.{word-line}
+use Rattle.play_words.proofs.MadeWordLemmas.{client-word}
 use Rattle.play_isolation.proofs.OwnLemmas.{range-calls}
 use Rattle.play_isolation.proofs.PlayLemmas.{transcript-in}
-use Rattle.play_isolation.proofs.RunWordLemmas.{events-plain}
+use Rattle.play_words.proofs.RunWordLemmas.{events-plain}
 
 -- ---- entries of documents
 

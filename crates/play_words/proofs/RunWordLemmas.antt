@@ -20,9 +20,9 @@ use Rattle.script_runs.specs.Runs.{Next, Progress, after_events, at_time, docume
 use Rattle.script_runs.specs.Runs.{fault_event, load_event, outcome_event, setting_of, showing, start_event}
 use Rattle.script_runs.proofs.ScriptLemmas.{good-document}
 use Rattle.play_text.specs.Plain.{IsPlainEvent, IsPlainOutcome}
-use Rattle.play_isolation.specs.Given.{HasGiven}
-use Rattle.play_isolation.proofs.MadeWordLemmas.{client-word, made-word}
-use Rattle.play_isolation.proofs.ProcessWordLemmas.{IsPlainAct, IsPlainProcess, plain-fetch}
+use Rattle.play_words.specs.Given.{HasGiven}
+use Rattle.play_words.proofs.MadeWordLemmas.{client-word, made-word}
+use Rattle.play_words.proofs.ProcessWordLemmas.{IsPlainAct, IsPlainProcess, plain-fetch}
 
 -- what the run shows is plain
 abbrev IsPlainPlay : Play → Type 0

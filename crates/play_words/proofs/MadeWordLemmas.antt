@@ -29,12 +29,12 @@ use Rattle.fetch_requests.proofs.RequestLemmas.{made-valid}
 use Rattle.script_scenarios.specs.declared.document.Document.{Document}
 use Rattle.script_runs.specs.Runs.{document_client}
 use Rattle.script_runs.proofs.ScriptLemmas.{IsMade}
-use Rattle.play_isolation.specs.Given.{HasGiven, IsGiven}
-use Rattle.play_isolation.proofs.AnswerWordLemmas.{IsWordWhere, text-where, unless-where}
-use Rattle.play_isolation.proofs.NameWordLemmas.{AreNamed}
-use Rattle.play_isolation.proofs.RequestWordLemmas.{IsWordRequest}
-use Rattle.play_isolation.proofs.TextWordLemmas.{IsWord, origin-word}
-use Rattle.play_isolation.proofs.UrlWordLemmas.{IsWordUrl, parse-words}
+use Rattle.play_words.specs.Given.{HasGiven, IsGiven}
+use Rattle.play_words.proofs.AnswerWordLemmas.{IsWordWhere, text-where, unless-where}
+use Rattle.play_words.proofs.NameWordLemmas.{AreNamed}
+use Rattle.play_words.proofs.RequestWordLemmas.{IsWordRequest}
+use Rattle.play_words.proofs.TextWordLemmas.{IsWord, origin-word}
+use Rattle.play_words.proofs.UrlWordLemmas.{IsWordUrl, parse-words}
 
 -- ---- the client
 

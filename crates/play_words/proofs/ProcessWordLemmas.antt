@@ -58,13 +58,13 @@ use Rattle.fetch_definitions.specs.Then.{Context, Onward, Then, body_of, head_of
 use Rattle.fetch_definitions.specs.Then.{then_ask_where, was_sent}
 use Rattle.play_text.specs.Plain.{IsLine, IsPlainError, IsPlainOutcome}
 use Rattle.play_text.specs.Words.{has_words}
-use Rattle.play_isolation.proofs.AnswerWordLemmas.{AreErrors, IsPlainEnded, IsWordRedirection, after-plain, before-plain}
-use Rattle.play_isolation.proofs.AnswerWordLemmas.{body-plain, ended-plain, redirection-word}
-use Rattle.play_isolation.proofs.FetchWordLemmas.{IsPlainViolation, IsWordChecked, clear-words, covers-words, learn-words}
-use Rattle.play_isolation.proofs.FetchWordLemmas.{match-words, note-words, verdict-word, violations-plain, word-line}
-use Rattle.play_isolation.proofs.NameWordLemmas.{unsafe-tokens}
-use Rattle.play_isolation.proofs.RequestWordLemmas.{IsWordRequest, redirected-word, where-word}
-use Rattle.play_isolation.proofs.TextWordLemmas.{IsWord, place-word}
+use Rattle.play_words.proofs.AnswerWordLemmas.{AreErrors, IsPlainEnded, IsWordRedirection, after-plain, before-plain}
+use Rattle.play_words.proofs.AnswerWordLemmas.{body-plain, ended-plain, redirection-word}
+use Rattle.play_words.proofs.FetchWordLemmas.{IsPlainViolation, IsWordChecked, clear-words, covers-words, learn-words}
+use Rattle.play_words.proofs.FetchWordLemmas.{match-words, note-words, verdict-word, violations-plain, word-line}
+use Rattle.play_words.proofs.NameWordLemmas.{unsafe-tokens}
+use Rattle.play_words.proofs.RequestWordLemmas.{IsWordRequest, redirected-word, where-word}
+use Rattle.play_words.proofs.TextWordLemmas.{IsWord, place-word}
 
 -- ---- what is shown
 

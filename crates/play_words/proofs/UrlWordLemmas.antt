@@ -32,9 +32,9 @@ use Rattle.url.proofs.ParsedCanonical.{before_special}
 use Rattle.value_origins.specs.Origins.{is_http}
 use Rattle.percent_encoding.specs.Percent.{percent_encode}
 use Rattle.play_text.specs.Words.{is_visible}
-use Rattle.play_isolation.proofs.HostWordLemmas.{IsWordHost, special-gives}
-use Rattle.play_isolation.proofs.PathWordLemmas.{AreVisible, AreVisibleIn, escaped-visible, segments-visible, shorten-visible}
-use Rattle.play_isolation.proofs.PathWordLemmas.{start-visible}
+use Rattle.play_words.proofs.HostWordLemmas.{IsWordHost, special-gives}
+use Rattle.play_words.proofs.PathWordLemmas.{AreVisible, AreVisibleIn, escaped-visible, segments-visible, shorten-visible}
+use Rattle.play_words.proofs.PathWordLemmas.{start-visible}
 
 -- The parts of the URL are of visible bytes, and its port is a number of 16 bits.
 pub record IsWordUrl (url : Parts) : Type 0 where

@@ -42,7 +42,7 @@ use Rattle.script_runs.specs.Runs.{limit_before, most_commands, outcome_event, r
 use Rattle.script_runs.specs.Runs.{setting_of, showing, start_event, started, unless_limit, waited}
 use Rattle.play_definitions.specs.Plays.{IsTranscript, Way, opening_book}
 use Rattle.play_isolation.specs.Calls.{call_of, calls_in}
-use Rattle.play_isolation.specs.Laws.{CallsFew, PlaysFew}
+use Rattle.play_words.specs.Laws.{CallsFew, PlaysFew}
 use Rattle.play_isolation.proofs.AloneLemmas.{calls-append, calls-silent}
 use Rattle.play_isolation.proofs.BlindLemmas.{ShowsNoCall, silent-document}
 use Rattle.play_isolation.proofs.PlayLemmas.{transcript-in}

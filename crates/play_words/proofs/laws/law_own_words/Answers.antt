@@ -1,6 +1,6 @@
-use Rattle.play_isolation.proofs.PlayWordLemmas.{plays-told}
-use Rattle.play_isolation.proofs.RunWordLemmas.{events-plain}
-use Rattle.play_isolation.proofs.laws.law_own_words.Goals as goal
+use Rattle.play_words.proofs.PlayWordLemmas.{plays-told}
+use Rattle.play_words.proofs.RunWordLemmas.{events-plain}
+use Rattle.play_words.proofs.laws.law_own_words.Goals as goal
 
 pub returns-clause-events : goal.returns-clause-events
 returns-clause-events g c = events-plain

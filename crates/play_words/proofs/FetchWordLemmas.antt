@@ -43,11 +43,11 @@ use Rattle.fetch_rules.specs.KnownHosts.{host_to_match, host_to_note, match_of, 
 use Rattle.fetch_rules.specs.Questions.{asked_method, clear_of, covers_of, learn_of}
 use Rattle.play_text.specs.Plain.{IsLine, IsPlainError}
 use Rattle.play_text.specs.Words.{has_words, is_method, is_visible}
-use Rattle.play_isolation.proofs.NameWordLemmas.{AreTokens, HasTokens, extracted-tokens, found-token, unsafe-tokens}
-use Rattle.play_isolation.proofs.PathWordLemmas.{AreVisible}
-use Rattle.play_isolation.proofs.RequestWordLemmas.{IsWordRequest, request-origin}
-use Rattle.play_isolation.proofs.TextWordLemmas.{IsWord, name-word, stripped-word, url-word}
-use Rattle.play_isolation.proofs.UrlWordLemmas.{IsWordUrl}
+use Rattle.play_words.proofs.NameWordLemmas.{AreTokens, HasTokens, extracted-tokens, found-token, unsafe-tokens}
+use Rattle.play_words.proofs.PathWordLemmas.{AreVisible}
+use Rattle.play_words.proofs.RequestWordLemmas.{IsWordRequest, request-origin}
+use Rattle.play_words.proofs.TextWordLemmas.{IsWord, name-word, stripped-word, url-word}
+use Rattle.play_words.proofs.UrlWordLemmas.{IsWordUrl}
 
 -- ---- texts on one line
 

@@ -32,7 +32,7 @@ use Rattle.url.proofs.InputLemmas.{Passes}
 use Rattle.url.proofs.PiecesLemmas.{option_cases}
 use Rattle.url.proofs.SetLemmas.{passes_from_kept}
 use Rattle.play_text.specs.Words.{is_visible}
-use Rattle.play_isolation.proofs.PathWordLemmas.{AreVisible}
+use Rattle.play_words.proofs.PathWordLemmas.{AreVisible}
 
 -- a domain of visible bytes, or an address
 abbrev pub IsWordHost : Host (List ℕ) → Type 0

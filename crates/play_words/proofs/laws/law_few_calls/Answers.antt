@@ -1,5 +1,5 @@
-use Rattle.play_isolation.proofs.FewLemmas.{calls-few, plays-few}
-use Rattle.play_isolation.proofs.laws.law_few_calls.Goals as goal
+use Rattle.play_words.proofs.FewLemmas.{calls-few, plays-few}
+use Rattle.play_words.proofs.laws.law_few_calls.Goals as goal
 
 pub returns-clause-runs : goal.returns-clause-runs
 returns-clause-runs g c = calls-few

@@ -22,9 +22,9 @@ use Rattle.fetch_rules.proofs.UpgradingLemmas.{secured-http, secured-url}
 use Rattle.fetch_answers.specs.Following.{at_next, redirected_request, turned_to_get, turns_to_get}
 use Rattle.fetch_answers.specs.Following.{with_method_after, without_authorization}
 use Rattle.play_text.specs.Words.{is_visible}
-use Rattle.play_isolation.proofs.NameWordLemmas.{AreNamed}
-use Rattle.play_isolation.proofs.TextWordLemmas.{IsWord}
-use Rattle.play_isolation.proofs.UrlWordLemmas.{IsWordUrl}
+use Rattle.play_words.proofs.NameWordLemmas.{AreNamed}
+use Rattle.play_words.proofs.TextWordLemmas.{IsWord}
+use Rattle.play_words.proofs.UrlWordLemmas.{IsWordUrl}
 
 -- A request whose method and header names are tokens, whose current URL is an http or https one of words, as the first
 -- is of words, and whose origin's text is a word.

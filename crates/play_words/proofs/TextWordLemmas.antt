@@ -29,9 +29,9 @@ use Rattle.value_requests.specs.Targets.{origin_text}
 use Rattle.value_requests.specs.Urls.{stripped, without_fragment}
 use Rattle.fetch_rules.specs.KnownHosts.{name_at, name_of_host}
 use Rattle.play_text.specs.Words.{is_visible, is_word}
-use Rattle.play_isolation.proofs.HostWordLemmas.{IsWordHost, host-visible, ipv4-visible, ipv6-visible}
-use Rattle.play_isolation.proofs.PathWordLemmas.{AreVisible}
-use Rattle.play_isolation.proofs.UrlWordLemmas.{IsWordUrl, of-http}
+use Rattle.play_words.proofs.HostWordLemmas.{IsWordHost, host-visible, ipv4-visible, ipv6-visible}
+use Rattle.play_words.proofs.PathWordLemmas.{AreVisible}
+use Rattle.play_words.proofs.UrlWordLemmas.{IsWordUrl, of-http}
 
 -- a word
 abbrev pub IsWord : List ℕ → Type 0

@@ -44,11 +44,11 @@ use Rattle.fetch_answers.specs.Words.{is_error, is_fetch, is_manual, is_nosniff_
 use Rattle.fetch_answers.specs.Words.{passes_check}
 use Rattle.fetch_answers.specs.Words as answers
 use Rattle.play_text.specs.Plain.{IsLine, IsPlainError, IsPlainOutcome}
-use Rattle.play_isolation.proofs.FetchWordLemmas.{word-line}
-use Rattle.play_isolation.proofs.PathWordLemmas.{AreVisibleIn}
-use Rattle.play_isolation.proofs.RequestWordLemmas.{IsWordRequest}
-use Rattle.play_isolation.proofs.TextWordLemmas.{without-word}
-use Rattle.play_isolation.proofs.UrlWordLemmas.{IsWordUrl, parse-words}
+use Rattle.play_words.proofs.FetchWordLemmas.{word-line}
+use Rattle.play_words.proofs.PathWordLemmas.{AreVisibleIn}
+use Rattle.play_words.proofs.RequestWordLemmas.{IsWordRequest}
+use Rattle.play_words.proofs.TextWordLemmas.{without-word}
+use Rattle.play_words.proofs.UrlWordLemmas.{IsWordUrl, parse-words}
 
 -- ---- the URL of a redirect
 

@@ -1,0 +1,13 @@
+pub mod AnswerWordLemmas
+pub mod FetchWordLemmas
+pub mod FewLemmas
+pub mod HostWordLemmas
+pub mod MadeWordLemmas
+pub mod NameWordLemmas
+pub mod PathWordLemmas
+pub mod PlayWordLemmas
+pub mod ProcessWordLemmas
+pub mod RequestWordLemmas
+pub mod RunWordLemmas
+pub mod TextWordLemmas
+pub mod UrlWordLemmas
