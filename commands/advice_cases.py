@@ -157,6 +157,10 @@ CHAINS = {
 POLICIES = {
     **{"default-src alone: %s" % kind: policed("default-src 'self'", load(kind))
        for kind in ("image", "audio", "font", "manifest", "style", "script")},
+    "localhost without its scheme": policed("connect-src localhost:3000", fetch("http://localhost:3000/x"), servers=[
+        {"origin": "http://localhost:3000", "rules": [rule(200, [OK])]}]),
+    "headers of answers, and a PUT": scenario(
+        fetch(**PUT, headers=[[ALLOW + "Origin", "*"], ["X-A", "1"]]), [rule(404, method="OPTIONS"), rule()]),
     "default-src alone": policed("default-src 'self' https://cdn.test"),
     "none without quotes": policed("default-src none"),
     "unsafe-inline without quotes": policed("script-src 'self' unsafe-inline", script()),

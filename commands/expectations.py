@@ -6,7 +6,8 @@ import os
 import re
 
 from commands import (asking, doubts, edits, findings, json_text, known_hosts, lints, notes, play_text,
-                      policy_questions, refusals, results, running, streams, test_words, verdicts, wanted_refusals, wanted_requests)
+                      policy_questions, refusals, results, running, streams, test_words, verdicts, wanted_refusals,
+                      wanted_requests)
 from commands.asking import Wrong
 from commands.case import CAUSES
 from commands.explanations import NOTHING, TABLE, explain, lines_of

@@ -189,8 +189,8 @@ POLICIES = [
     Way("policy/nothing-allowed", "4", lambda c: [word.lower() for word in c.directive[1]] in ([], ["'none'"]),
         "{c.policy} has `{c.directive_text}`, which lets nothing pass", "", "{change}", POLICY, changes.add_source),
     Way("policy/loopback-address", "4", lambda c: c.is_policy_loopback,
-        "{c.policy} has `{c.directive_text}`, where browsers match `127.0.0.1`, as CSP 3 has it, and this engine matches no "
-        "IP address", "", "a browser needs no change; for a verdict here {change}", WORDS, changes.add_source),
+        "{c.policy} has `{c.directive_text}`, where browsers match `127.0.0.1`, as CSP 3 has it, and this engine matches "
+        "no IP address", "", "a browser needs no change; for a verdict here {change}", WORDS, changes.add_source),
     Way("policy/ip-address", "4", lambda c: c.is_policy_address,
         "{c.policy} has `{c.directive_text}`, and the host of {c.policy_url} is an IP address, which no word with a host "
         "matches", "",
@@ -384,7 +384,8 @@ LINKS = [
     Way("link/reset", "24", always, "the connection to {c.route} broke before the head of the answer was whole", "",
         "look into the server's log: it ended, or reset the connection", "../why.md#your-own-server"),
     Way("head/host-as-path", "25", lambda c: not c.is_net and c.answer.server is None and c.is_host_as_path,
-        "`{c.command.url}` has no scheme, so it is a path of the page, and the scenario has no server {c.request.origin}",
+        "`{c.command.url}` has no scheme, so it is a path of the page, and the scenario has no server "
+        "{c.request.origin}",
         "", "write the scheme: {change}", "../scenario.md#servers", changes.with_https),
     Way("head/no-server", "25", lambda c: not c.is_net and c.answer.server is None,
         "{c.why_scheme}the scenario has no server {c.request.origin}: {c.near_server}", "",
@@ -485,8 +486,8 @@ ASKED = {
     "seen/body-hang": ("the head came, and the body did not end before the time limit{c.but_length}",
                        "end it{c.or_length}; of a stream that has no end a page reads what comes, which is not done "
                        "here"),
-    "no-verdict/coded": ("no verdict: {c.coding} is not decoded here{c.why_coded}; a browser would read the body only if it is of "
-                         "that coding{c.but_gzip}; CORS, policies and types let it",
+    "no-verdict/coded": ("no verdict: {c.coding} is not decoded here{c.why_coded}; a browser would read the body only if it "
+                         "is of that coding{c.but_gzip}; CORS, policies and types let it",
                          "{c.if_gzip}for a verdict here send the body uncoded, and {change}{c.unless_gzip}"),
     "seen/body-toobig": ("the body is longer than the 1,048,576 bytes that are read here", "nothing: a page reads on"),
 }

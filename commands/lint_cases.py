@@ -452,8 +452,8 @@ MENDED = {
     "img-src a.test; b.test; img-src c.test; font-scr 'self": "img-src a.test b.test c.test; font-src 'self'",
     "img-src='self'; font-src:https://f.test": "img-src 'self'; font-src https://f.test",
     "img-src (self); font-src %27none%27; media-src all": "img-src 'self'; font-src 'none'; media-src *",
-    "connect-src ws//a.test //b.test https://u:p@c.test /api ./d": "connect-src wss://a.test https://b.test "
-                                                                "https://c.test https://shop.test/api https://shop.test/d",
+    "connect-src ws//a.test //b.test https://u:p@c.test /api ./d":
+        "connect-src wss://a.test https://b.test https://c.test https://shop.test/api https://shop.test/d",
     "script-src 'wasm-eval' inline; img-src mediastream": "script-src 'wasm-unsafe-eval' 'unsafe-inline'; "
                                                           "img-src mediastream:",
     "default-src 'self' data:; upgrade-insecure-requests 1": "default-src 'self' data:; script-src 'self'; "

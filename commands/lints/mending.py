@@ -151,7 +151,8 @@ def no_plugins(directive, meant):
 
 
 DIRECTIVES = {
-    "csp/directive-with-sign": renamed, "csp/sign-alone": without_sign, "csp/not-ascii": in_ascii, "csp/unknown-directive": as_named,
+    "csp/directive-with-sign": renamed, "csp/sign-alone": without_sign, "csp/not-ascii": in_ascii,
+    "csp/unknown-directive": as_named,
     "csp/no-words": with_none, "csp/needless-words": alone, "csp/none-beside-others": without("'none'"),
     "csp/star-beside-others": star_alone, "csp/unsafe-inline-ignored": without("'unsafe-inline'"),
     "csp/unsafe-hashes-alone": without("'unsafe-hashes'"), "csp/report-only-ignores": taken_out,
