@@ -1,8 +1,8 @@
 // Fiorrudda, a browser's fetch engine that is proved, for C. Written by embed/header from the exports: do not edit.
 // docs/embedding.md says what is proved of each call, and docs/TRUST.md what that rests on.
 //
-// A code other than FIORRUDDA_OK and FIORRUDDA_NO is no answer, neither yes nor no: test for the one of the two that
-// gives leave, which docs/embedding.md lists.
+// A code other than FIORRUDDA_OK and FIORRUDDA_NO is no answer, neither yes nor no: compare with the one of the two that
+// permits, which docs/embedding.md lists.
 //
 // A text is a pointer and a length in bytes, of any bytes. A pointer is never null; with length 0 it may point anywhere.
 // Nothing is kept of what was lent to a call, and two things that are lent to one call do not overlap, unless both are
@@ -30,9 +30,9 @@ extern "C" {
 // A handle holds nothing of the kind that the call is for. Nothing is changed.
 #define FIORRUDDA_WRONG_HANDLE 2u
 
-// Memory was refused. What handles hold is as it was, except that a fetch which was told something is gone, and that
-// a book which a fetch asked may have done what it was asked: then its reply is told. No other answer is written,
-// except that `fiorrudda_feed` tells that no byte was taken.
+// Memory was refused. What handles hold is as it was, except that the fetch given to `fiorrudda_ask`,
+// `fiorrudda_input` or `fiorrudda_feed` is lost, and that in `fiorrudda_ask` the book may have done the call: then
+// `reply` is written. No other answer is written, except that `fiorrudda_feed` tells that no byte was taken.
 #define FIORRUDDA_OUT_OF_MEMORY 3u
 
 // The room for the answer is too short. Nothing is written but how many bytes the answer has.
@@ -171,7 +171,7 @@ extern "C" {
 // The document is to be told of a violation of its policies.
 #define FIORRUDDA_ACT_TELL 5u
 
-// Memory was refused, and the fetch is gone.
+// Memory was refused, and the fetch is lost: free it.
 #define FIORRUDDA_ACT_GONE 6u
 
 // What came of an act: the request was sent.
@@ -511,7 +511,8 @@ uint32_t fiorrudda_referrer(uint32_t policy, const uint8_t *source, size_t sourc
 
 // "CORS check" of an answer's header list, for the serialised origin of a request and whether its credentials mode is
 // include (Fetch, section 4.10). The origin is compared byte for byte; `null` is that of a request that was tainted
-// by redirects.
+// by redirects. It is for mode cors, where a URL of the request is of another origin than the page: a page reads what
+// all came of its own origin without it, and never an answer to mode no-cors of another.
 //
 // FIORRUDDA_OK where the answer passes; FIORRUDDA_NO; FIORRUDDA_WRONG_HANDLE.
 uint32_t fiorrudda_cors_check(const uint8_t *origin, size_t origin_len, bool include, fiorrudda_handle *headers);
@@ -571,10 +572,10 @@ uint32_t fiorrudda_forbidden_method(const uint8_t *method, size_t method_len);
 // for FIORRUDDA_OK and FIORRUDDA_TOO_SHORT nothing to `len`.
 uint32_t fiorrudda_essence(fiorrudda_handle *headers, uint8_t *room, size_t room_len, size_t *len);
 
-// "determine nosniff" of an answer's header list (Fetch, section 3.6): scripts and styles of another MIME type are
-// blocked then.
+// "determine nosniff" of an answer's header list (Fetch, section 3.6). This tells only what the header says:
+// `fiorrudda_nosniff_blocked` decides.
 //
-// FIORRUDDA_OK where the answer says nosniff; FIORRUDDA_NO, which alone gives leave; FIORRUDDA_WRONG_HANDLE.
+// FIORRUDDA_OK where the answer says nosniff; FIORRUDDA_NO where it does not; FIORRUDDA_WRONG_HANDLE.
 uint32_t fiorrudda_nosniff(fiorrudda_handle *headers);
 
 // Whether an answer to a request is blocked for its MIME type, by its header list: one of a script that is audio,
@@ -715,8 +716,9 @@ uint32_t fiorrudda_upgrades(fiorrudda_handle *policies);
 // what is asked for, or nothing redirects it; FIORRUDDA_NOT_A_URL and FIORRUDDA_NOT_HTTP, of `redirect`;
 // FIORRUDDA_OUT_OF_MEMORY. Except for FIORRUDDA_OK and FIORRUDDA_NO the handle holds what it held.
 //
-// A response is blocked where one of the violations is enforced. The client's own policies are not asked. A request
-// that a policy or Mixed Content upgrades is to be asked with its https URL.
+// A response is blocked where `fiorrudda_violation` tells `enforced` 1 of one of the violations: report-only ones
+// never block, though the code is FIORRUDDA_NO for them. The client's own policies are not asked. A request that a
+// policy or Mixed Content upgrades is to be asked with its https URL.
 uint32_t fiorrudda_check(fiorrudda_handle *violations, fiorrudda_handle *policies, fiorrudda_handle *client, fiorrudda_handle *request, const uint8_t *redirect, size_t redirect_len, uint32_t check);
 
 // Tells of the violation (CSP 3, section 2.4) at an index, from 0 on, the number of the policy in `policy`, and 1 in
@@ -843,8 +845,8 @@ uint32_t fiorrudda_filtered(fiorrudda_handle *filtered, fiorrudda_handle *client
 //         printf("line %u, reason %u\n", (unsigned)line, (unsigned)error); // line 1, FIORRUDDA_REASON_OTHER_FORMAT
 
 // Makes an empty book in a handle: no known HSTS hosts (RFC 6797, section 8), and an empty CORS-preflight cache
-// (Fetch, section 4.9). What the handle held is freed. Threads that share a book hold a lock of their own around each
-// call that is given it, this one too.
+// (Fetch, section 4.9). What the handle held is freed. Threads that share a book hold one common lock around each
+// call that takes it, this one too.
 //
 // FIORRUDDA_OK or FIORRUDDA_OUT_OF_MEMORY. Except for FIORRUDDA_OK the handle holds what it held.
 uint32_t fiorrudda_book(fiorrudda_handle *book);
@@ -858,7 +860,7 @@ uint32_t fiorrudda_sts(const uint8_t *field, size_t field_len, uint64_t *age, ui
 
 // Has a book note what the value of a Strict-Transport-Security field of a host says (RFC 6797, section 8.1), at a
 // time in seconds since any fixed moment. The host is the domain of a URL, in lower case. The field came over https.
-// Threads that share the book hold a lock of their own around the call, as around each that is given the book.
+// Threads that share the book hold one common lock around each call that takes it.
 //
 // FIORRUDDA_OK where the field says something; FIORRUDDA_NO where it is to be ignored; FIORRUDDA_WRONG_HANDLE;
 // FIORRUDDA_NOT_A_HOST of an IP address, a localhost name, a capital letter, or what is no domain;
@@ -866,19 +868,20 @@ uint32_t fiorrudda_sts(const uint8_t *field, size_t field_len, uint64_t *age, ui
 uint32_t fiorrudda_note_host(fiorrudda_handle *book, const uint8_t *host, size_t host_len, const uint8_t *field, size_t field_len, uint64_t now);
 
 // Whether a host is a known HSTS host of a book at a time in seconds (RFC 6797, section 8.2): http URLs of it are to
-// be asked by https. The host is the domain of a URL, in lower case. Threads that share the book hold a lock of their
-// own around the call, as around each that is given the book.
+// be asked by https. The host is the domain of a URL, in lower case. Threads that share the book hold one common lock
+// around each call that takes it.
 //
-// FIORRUDDA_OK where it is; FIORRUDDA_NO, which leaves an http URL as it is, and so does FIORRUDDA_NOT_A_HOST, which
-// is told as by `fiorrudda_note_host`; FIORRUDDA_WRONG_HANDLE; FIORRUDDA_TOO_LATE; FIORRUDDA_OUT_OF_MEMORY.
+// FIORRUDDA_OK where it is; FIORRUDDA_NO and FIORRUDDA_NOT_A_HOST, which alone leave an http URL as it is;
+// FIORRUDDA_WRONG_HANDLE; FIORRUDDA_TOO_LATE; FIORRUDDA_OUT_OF_MEMORY. FIORRUDDA_NOT_A_HOST is told as by
+// `fiorrudda_note_host`: also of a host with a capital letter.
 uint32_t fiorrudda_known_host(fiorrudda_handle *book, const uint8_t *host, size_t host_len, uint64_t now);
 
 // Writes the text of a book, which `fiorrudda_book_of_text` reads back as the same book, so that what it knows lasts
 // over restarts: a line with its name and the number of its format, the known hosts, and the entries of the preflight
 // cache. Its times are in seconds since the moment that the calls counted from, which is 1970 for a book that lasts.
 // It has bytes of any kind, tells which servers were asked, and is not signed: who can change it can change what the
-// book knows. Threads that share the book hold a lock of their own around the call, as around each that is given the
-// book: one lock around both calls, where the first asks for the length.
+// book knows. Threads that share the book hold one common lock around each call that takes it, and around both calls
+// where the first asks for the length.
 //
 // FIORRUDDA_OK; FIORRUDDA_TOO_SHORT where `room` has less than `len` bytes; FIORRUDDA_WRONG_HANDLE;
 // FIORRUDDA_OUT_OF_MEMORY. But for FIORRUDDA_OK nothing is written to `room`, and but for FIORRUDDA_OK and
@@ -888,8 +891,8 @@ uint32_t fiorrudda_book_text(fiorrudda_handle *book, uint8_t *room, size_t room_
 // Makes in a handle the book whose text this is, as `fiorrudda_book_text` writes it, and frees what the handle held.
 // Nothing is read of a text that is not that of a book: `line` tells its first line that is not as such a text has
 // it, counted from 1, and `reason` why, by FIORRUDDA_REASON_NO_BOOK to FIORRUDDA_REASON_TOO_LONG. A line ends behind
-// its last field, so that an LF within a name or a URL ends no line. Where threads share the book that the handle
-// held, they hold a lock of their own around the call, as around each that is given the book.
+// its last field, so that an LF within a name or a URL ends no line. Threads that share the book hold one common lock
+// around each call that takes it, this one too.
 //
 // FIORRUDDA_OK; FIORRUDDA_NO, where the text is refused; FIORRUDDA_OUT_OF_MEMORY. Except for FIORRUDDA_OK the handle
 // holds what it held. `line` and `reason` are told with FIORRUDDA_NO alone.
@@ -927,14 +930,13 @@ uint32_t fiorrudda_act(fiorrudda_handle *fetch, uint32_t *act);
 
 // Has a fetch ask a book what its act asks for, or tell it that, and goes on from what the book replies, which is
 // told in `reply`: FIORRUDDA_INPUT_YES, FIORRUDDA_INPUT_NO or FIORRUDDA_INPUT_DONE (Fetch, section 4.9; RFC 6797,
-// section 8). Threads that share the book hold a lock of their own around the call, as around each that is given the
-// book.
+// section 8). Threads that share the book hold one common lock around each call that takes it.
 //
 // FIORRUDDA_OK; FIORRUDDA_NOT_AWAITED where the act asks no book, and then the fetch stands where it stood and the
-// book is as it was; FIORRUDDA_WRONG_HANDLE; FIORRUDDA_OUT_OF_MEMORY, and then the fetch is gone: its act is
-// FIORRUDDA_ACT_GONE. Where the book did what it was asked before memory was refused, the reply is told; else the
-// book is as it was, and nothing is written to `reply`, so set it to 0 before the call. So is it with the other
-// codes.
+// book is as it was; FIORRUDDA_WRONG_HANDLE; FIORRUDDA_OUT_OF_MEMORY, and then the fetch is lost: its act is
+// FIORRUDDA_ACT_GONE. Then the book may have done what it was asked, and `reply` is told; else the book is as it was,
+// and nothing is written to `reply`: set it to 0 before the call. With FIORRUDDA_NOT_AWAITED and
+// FIORRUDDA_WRONG_HANDLE nothing is written to it.
 uint32_t fiorrudda_ask(fiorrudda_handle *fetch, fiorrudda_handle *book, uint32_t *reply);
 
 // Writes all bytes of the request that a fetch sends (RFC 9112, section 3) at the beginning of `room`, and tells in
@@ -958,8 +960,9 @@ uint32_t fiorrudda_input(fiorrudda_handle *fetch, uint32_t input);
 
 // Hands a fetch the next bytes of the answer, in any piece, be it empty, and tells in `used` how many of them were
 // read (RFC 9112, sections 4, 6 and 7). Where a head ends in the piece, the bytes behind it are not read: they are
-// the first of the body, and are handed in again where the next act is FIORRUDDA_ACT_READ_BODY, also where there are
-// none. What follows a body is of no use, and the connection is to be closed.
+// the first of the body, and are handed in again when the act is FIORRUDDA_ACT_READ_BODY, even if there are none;
+// FIORRUDDA_ACT_ASK and FIORRUDDA_ACT_TELL may come before. At FIORRUDDA_ACT_SEND and FIORRUDDA_ACT_OVER unread bytes
+// are of no use, and the connection is closed.
 //
 // FIORRUDDA_OK; FIORRUDDA_NOT_AWAITED where no bytes are read now, and then the fetch stands where it stood;
 // FIORRUDDA_WRONG_HANDLE; FIORRUDDA_OUT_OF_MEMORY, and then the fetch is gone: its act is FIORRUDDA_ACT_GONE. But for

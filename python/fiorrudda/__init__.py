@@ -356,7 +356,7 @@ class Headers(_Thing):
 
 class Book(_Thing):
     """Known HSTS hosts, and the CORS-preflight cache. Times are in seconds since any fixed moment, which is 1970 for a book
-    that lasts over restarts. Threads that share one hold a lock of their own around each call of it, and around `Fetch.ask`."""
+    that lasts over restarts. Threads that share one hold one common lock around each call of it, and around `Fetch.ask`."""
 
     def __init__(self) -> None:
         super().__init__(_lib.fiorrudda_book)

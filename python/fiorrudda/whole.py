@@ -274,7 +274,7 @@ class Fetch(_Thing):
 
     def ask(self, book: Book) -> Optional[bool]:
         """Asks a book what the act asks; its reply is a bool, or None where it was told something. Threads that share the book
-        hold a lock of their own around the call, as around each of the book's."""
+        hold one common lock around each call of the book."""
         reply = ctypes.c_uint32(0)
         _told(_lib.fiorrudda_ask(self._handle, book._handle, reply))
         return {_YES: True, _DID_NOT: False}.get(reply.value)

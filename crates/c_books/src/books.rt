@@ -30,8 +30,8 @@ pub const REASON_TOO_LONG: u32 = 5;
 /// over restarts: a line with its name and the number of its format, the known hosts, and the entries of the preflight
 /// cache. Its times are in seconds since the moment that the calls counted from, which is 1970 for a book that lasts.
 /// It has bytes of any kind, tells which servers were asked, and is not signed: who can change it can change what the
-/// book knows. Threads that share the book hold a lock of their own around the call, as around each that is given the
-/// book: one lock around both calls, where the first asks for the length.
+/// book knows. Threads that share the book hold one common lock around each call that takes it, and around both calls
+/// where the first asks for the length.
 ///
 /// `OK`; `TOO_SHORT` where `room` has less than `len` bytes; `WRONG_HANDLE`; `OUT_OF_MEMORY`. But for `OK` nothing is
 /// written to `room`, and but for `OK` and `TOO_SHORT` nothing to `len`. The book is as it was.
@@ -73,8 +73,8 @@ fn reason_number(reason: Reason) -> u32
 /// Makes in a handle the book whose text this is, as `fiorrudda_book_text` writes it, and frees what the handle held.
 /// Nothing is read of a text that is not that of a book: `line` tells its first line that is not as such a text has it,
 /// counted from 1, and `reason` why, by `REASON_NO_BOOK` to `REASON_TOO_LONG`. A line ends behind its last field, so
-/// that an LF within a name or a URL ends no line. Where threads share the book that the handle held, they hold a lock
-/// of their own around the call, as around each that is given the book.
+/// that an LF within a name or a URL ends no line. Threads that share the book hold one common lock around each call
+/// that takes it, this one too.
 ///
 /// `OK`; `NO`, where the text is refused; `OUT_OF_MEMORY`. Except for `OK` the handle holds what it held. `line` and
 /// `reason` are told with `NO` alone.

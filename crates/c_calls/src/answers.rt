@@ -8,10 +8,10 @@ use c_handle::{Handle, OUT_OF_MEMORY, WRONG_HANDLE, told, write_answer, yes_or_n
 use c_rules::{essence_in, source_matches};
 use std::alloc::Global;
 
-/// "determine nosniff" of an answer's header list (Fetch, section 3.6): scripts and styles of another MIME type are
-/// blocked then.
+/// "determine nosniff" of an answer's header list (Fetch, section 3.6). This tells only what the header says:
+/// `fiorrudda_nosniff_blocked` decides.
 ///
-/// `OK` where the answer says nosniff; `NO`, which alone gives leave; `WRONG_HANDLE`.
+/// `OK` where the answer says nosniff; `NO` where it does not; `WRONG_HANDLE`.
 #[unsafe(no_mangle)]
 pub extern "C" fn fiorrudda_nosniff(headers: &mut Handle) -> u32
     ensures told { result ≡ nosniff headers.old.held }

@@ -36,7 +36,7 @@ pub const ACT_READ_BODY: u32 = 4;
 /// The document is to be told of a violation of its policies.
 pub const ACT_TELL: u32 = 5;
 
-/// Memory was refused, and the fetch is gone.
+/// Memory was refused, and the fetch is lost: free it.
 pub const ACT_GONE: u32 = 6;
 
 // The index of the header that is none, or 0.

@@ -11,8 +11,8 @@ use c_rules::{is_known_host, note_field};
 use std::alloc::Global;
 
 /// Makes an empty book in a handle: no known HSTS hosts (RFC 6797, section 8), and an empty CORS-preflight cache
-/// (Fetch, section 4.9). What the handle held is freed. Threads that share a book hold a lock of their own around each
-/// call that is given it, this one too.
+/// (Fetch, section 4.9). What the handle held is freed. Threads that share a book hold one common lock around each call
+/// that takes it, this one too.
 ///
 /// `OK` or `OUT_OF_MEMORY`. Except for `OK` the handle holds what it held.
 #[unsafe(no_mangle)]
@@ -25,7 +25,7 @@ pub extern "C" fn fiorrudda_book(alloc: Global, book: &mut Handle) -> u32
 
 /// Has a book note what the value of a Strict-Transport-Security field of a host says (RFC 6797, section 8.1), at a
 /// time in seconds since any fixed moment. The host is the domain of a URL, in lower case. The field came over https.
-/// Threads that share the book hold a lock of their own around the call, as around each that is given the book.
+/// Threads that share the book hold one common lock around each call that takes it.
 ///
 /// `OK` where the field says something; `NO` where it is to be ignored; `WRONG_HANDLE`; `NOT_A_HOST` of an IP address,
 /// a localhost name, a capital letter, or what is no domain; `TOO_LATE`; `OUT_OF_MEMORY`. The book is as it was but for
@@ -51,11 +51,11 @@ pub extern "C" fn fiorrudda_note_host(
 }
 
 /// Whether a host is a known HSTS host of a book at a time in seconds (RFC 6797, section 8.2): http URLs of it are to
-/// be asked by https. The host is the domain of a URL, in lower case. Threads that share the book hold a lock of their
-/// own around the call, as around each that is given the book.
+/// be asked by https. The host is the domain of a URL, in lower case. Threads that share the book hold one common lock
+/// around each call that takes it.
 ///
-/// `OK` where it is; `NO`, which leaves an http URL as it is, and so does `NOT_A_HOST`, which is told as by
-/// `fiorrudda_note_host`; `WRONG_HANDLE`; `TOO_LATE`; `OUT_OF_MEMORY`.
+/// `OK` where it is; `NO` and `NOT_A_HOST`, which alone leave an http URL as it is; `WRONG_HANDLE`; `TOO_LATE`;
+/// `OUT_OF_MEMORY`. `NOT_A_HOST` is told as by `fiorrudda_note_host`: also of a host with a capital letter.
 #[unsafe(no_mangle)]
 pub extern "C" fn fiorrudda_known_host(
     alloc: Global,

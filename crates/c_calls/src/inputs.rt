@@ -103,8 +103,8 @@ pub extern "C" fn fiorrudda_input(alloc: Global, fetch: &mut Handle, input: u32)
 
 /// Hands a fetch the next bytes of the answer, in any piece, be it empty, and tells in `used` how many of them were
 /// read (RFC 9112, sections 4, 6 and 7). Where a head ends in the piece, the bytes behind it are not read: they are the
-/// first of the body, and are handed in again where the next act is `ACT_READ_BODY`, also where there are none. What
-/// follows a body is of no use, and the connection is to be closed.
+/// first of the body, and are handed in again when the act is `ACT_READ_BODY`, even if there are none; `ACT_ASK` and
+/// `ACT_TELL` may come before. At `ACT_SEND` and `ACT_OVER` unread bytes are of no use, and the connection is closed.
 ///
 /// `OK`; `NOT_AWAITED` where no bytes are read now, and then the fetch stands where it stood; `WRONG_HANDLE`;
 /// `OUT_OF_MEMORY`, and then the fetch is gone: its act is `ACT_GONE`. But for `OK` none are read; for `WRONG_HANDLE`
@@ -148,12 +148,12 @@ fn tell_reply(answer: Option<Reply>, reply: &mut u32)
 
 /// Has a fetch ask a book what its act asks for, or tell it that, and goes on from what the book replies, which is told
 /// in `reply`: `INPUT_YES`, `INPUT_NO` or `INPUT_DONE` (Fetch, section 4.9; RFC 6797, section 8). Threads that share
-/// the book hold a lock of their own around the call, as around each that is given the book.
+/// the book hold one common lock around each call that takes it.
 ///
 /// `OK`; `NOT_AWAITED` where the act asks no book, and then the fetch stands where it stood and the book is as it was;
-/// `WRONG_HANDLE`; `OUT_OF_MEMORY`, and then the fetch is gone: its act is `ACT_GONE`. Where the book did what it was
-/// asked before memory was refused, the reply is told; else the book is as it was, and nothing is written to `reply`,
-/// so set it to 0 before the call. So is it with the other codes.
+/// `WRONG_HANDLE`; `OUT_OF_MEMORY`, and then the fetch is lost: its act is `ACT_GONE`. Then the book may have done what
+/// it was asked, and `reply` is told; else the book is as it was, and nothing is written to `reply`: set it to 0 before
+/// the call. With `NOT_AWAITED` and `WRONG_HANDLE` nothing is written to it.
 #[unsafe(no_mangle)]
 pub extern "C" fn fiorrudda_ask(
     alloc: Global,

@@ -15,7 +15,8 @@ use std::alloc::Global;
 
 /// "CORS check" of an answer's header list, for the serialised origin of a request and whether its credentials mode is
 /// include (Fetch, section 4.10). The origin is compared byte for byte; `null` is that of a request that was tainted by
-/// redirects.
+/// redirects. It is for mode cors, where a URL of the request is of another origin than the page: a page reads what all
+/// came of its own origin without it, and never an answer to mode no-cors of another.
 ///
 /// `OK` where the answer passes; `NO`; `WRONG_HANDLE`.
 #[unsafe(no_mangle)]

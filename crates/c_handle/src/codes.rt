@@ -9,9 +9,9 @@ pub const NO: u32 = 1;
 /// A handle holds nothing of the kind that the call is for. Nothing is changed.
 pub const WRONG_HANDLE: u32 = 2;
 
-/// Memory was refused. What handles hold is as it was, except that a fetch which was told something is gone, and that a
-/// book which a fetch asked may have done what it was asked: then its reply is told. No other answer is written, except
-/// that `fiorrudda_feed` tells that no byte was taken.
+/// Memory was refused. What handles hold is as it was, except that the fetch given to `fiorrudda_ask`,
+/// `fiorrudda_input` or `fiorrudda_feed` is lost, and that in `fiorrudda_ask` the book may have done the call: then
+/// `reply` is written. No other answer is written, except that `fiorrudda_feed` tells that no byte was taken.
 pub const OUT_OF_MEMORY: u32 = 3;
 
 /// The room for the answer is too short. Nothing is written but how many bytes the answer has.
