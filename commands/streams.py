@@ -86,9 +86,10 @@ def fault(error):
         type(error).__name__, str(error).partition("\n")[0], place.filename, place.lineno)
 
 
-def run(main, broken=2):
+def run(main, broken=2, finish=sys.exit):
     """Ends the program with the status of `main`, also where a pipe is closed or Ctrl-C is pressed; with the status
-    `broken`, and a line, where the command itself is wrong."""
+    `broken`, and a line, where the command itself is wrong. Where it finishes by os._exit no memory is given back piece
+    by piece."""
     try:
         try:
             status = main()
@@ -105,7 +106,7 @@ def run(main, broken=2):
     if status >= 128:
         os.dup2(os.open(os.devnull, os.O_WRONLY), 1)
         os.dup2(os.open(os.devnull, os.O_WRONLY), 2)
-    sys.exit(status)
+    finish(status)
 
 
 def seconds(word):

@@ -16,6 +16,7 @@ from recorded import (changes, differences, har, judging, progress, redacting, t
 from recorded.cors_headers import NoPage
 
 GOOD, BAD, WRONG, FAILED = range(4)
+KEPT: list[Any] = []  # what is large: to give it back piece by piece takes a tenth of the time
 # The words of changes, and whether each has a value.
 CHANGES = {"csp": True, "csp-report-only": True, "no-csp": False, "referrer-policy": True, "hsts": True,
            "upgrade": False, "set": True, "unset": True, "origin": True}
@@ -270,6 +271,7 @@ def judged(self: str, recording: Any, made: changes.Changes, given: argparse.Nam
     if wrong:
         return complain(WRONG, f"{self}: {wrong}")
     found = judging.judge(recording, made)
+    KEPT.extend((recording, found))
     if given.html:
         from recorded import waterfall  # what it needs takes a play's time to read
         wrong = waterfall.write(given.html, os.path.basename(given.recording or "standard input"), found, recording)
