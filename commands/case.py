@@ -1107,6 +1107,13 @@ class Case:
         return self.stays_plain + "; so http was asked, and " if self.stays_plain else ""
 
     @property
+    def or_https(self):
+        """What the real server needs, where the URL became https and nothing answers there."""
+        if not self.upgrade_of(self.hops[-1]):
+            return ""
+        return "; on a site whose host speaks http only: let it answer over https there, or ask a host that does"
+
+    @property
     def or_known(self):
         return "; or see to it that the host is a known one, where https was meant" if self.stays_plain else ""
 

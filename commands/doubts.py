@@ -167,13 +167,14 @@ def origins_without_server(scenario, play, is_net):
     known = ([origin for origin, _ in scenario.data.get("routes", [])] if is_net
              else [one["origin"] for one in scenario.servers()])
     by_host = {host_of(one): one for one in reversed(known)}
+    by_place = {urlsplit(one).netloc: one for one in reversed(known)}
     what = "route" if is_net else "server"
     told = set(known)
     for fetch in play.fetches():
         for request in fetch.of("send"):
             if request.origin not in told:
                 told.add(request.origin)
-                near = by_host.get(host_of(request.origin))
+                near = by_place.get(urlsplit(request.origin).netloc) or by_host.get(host_of(request.origin))
                 more = ": there is one of " + near if near else ""
                 name = verdicts.name_of(fetch, len(play.documents) > 1)
                 yield place_of(scenario, fetch), "%s asks %s, and no %s is of this origin%s" % (

@@ -389,7 +389,7 @@ LINKS = [
         "", "write the scheme: {change}", "../scenario.md#servers", changes.with_https),
     Way("head/no-server", "25", lambda c: not c.is_net and c.answer.server is None,
         "{c.why_scheme}the scenario has no server {c.request.origin}: {c.near_server}", "",
-        "add a server of this origin, with this scheme and this port{c.or_known}", "../scenario.md#servers",
+        "add a server of this origin, with this scheme and this port{c.or_known}{c.or_https}", "../scenario.md#servers",
         changes.a_server),
     Way("head/nothing", "25", lambda c: c.link_problem == "nothing", "the server closed the connection without an answer", "",
         "look into the server's log", HEAD),
