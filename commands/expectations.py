@@ -18,6 +18,7 @@ from commands.test_words import KEY
 SCHEMA = os.path.join(running.ROOT, "schema", "expect.schema.json")
 WAYS = [way.name for way in TABLE]
 OTHERS = ("sent", "never sent", *policy_questions.KEYS)  # the keys of `expect` that name no fetch
+OF_OUTCOMES = ("result", "body", "hides", "sees", "upgraded", "violations", "why")  # keys that stand in a fetch or a load
 MOST_UNNAMED = 20  # lines
 ONLY_STRICT = "all came as expected; --strict alone makes it `not ok`, for these warnings:"
 # As a play prints it behind the word violation, as far as a test says it.
@@ -69,6 +70,8 @@ def check(text, root):
     if stray is not None:
         raise Wrong(refusals.Refusal(text, stray.start, "/" + stray.value, 'the key "%s" belongs in "expect": '
                                      'write {"scenario": .., "expect": {"%s": ..}}' % (stray.value, stray.value)))
+    for key, sentence in wrong_keys(root.member("expect")):
+        raise Wrong(refusals.Refusal(text, key.start, "/expect/" + key.value, sentence))
     if problems:
         first = min(problems, key=lambda problem: problem.kind == "missing")  # that may be a misspelt one
         refusal = refusals.of_problem(text, first, schema)
@@ -81,6 +84,18 @@ def check(text, root):
             raise Wrong(refusals.Refusal(text, node.start, "/expect/" + place, sentence))
 
 
+def wrong_keys(expect):
+    """The keys of `expect` that name no fetch, and ask nothing else: each with a sentence."""
+    for key, _ in expect.members if expect is not None and expect.kind == "object" else []:
+        if key.value in OF_OUTCOMES:
+            yield key, (f'the key "{key.value}" belongs in a fetch or a load: '
+                        f'write "load 0": {{"{key.value}": ..}}')
+        elif key.value not in OTHERS and not KEY.fullmatch(key.value):
+            any_of_them = '"fetch 0", "load 2", "document 1 fetch 0", or one of ' + ", ".join(map(json.dumps, OTHERS))
+            meant = test_words.key_meant(key.value, OTHERS) or any_of_them
+            yield key, f'the key "{key.value}" names no fetch: write {meant}'
+
+
 def wrongs(key, value):
     """What is wrong at a key of `expect`: a node, its place, and a sentence."""
     if key.value in policy_questions.KEYS:
@@ -88,10 +103,6 @@ def wrongs(key, value):
     elif key.value in OTHERS:
         yield from of_requests(value, key.value)
     else:
-        if not KEY.fullmatch(key.value):
-            any_of_them = '"fetch 0", "load 2", "document 1 fetch 0", or one of ' + ", ".join(map(json.dumps, OTHERS))
-            meant = test_words.key_meant(key.value, OTHERS) or any_of_them
-            yield key, key.value, f'the key "{key.value}" names no fetch: write {meant}'
         yield from of_outcome(key.value, value)
 
 

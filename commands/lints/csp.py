@@ -118,7 +118,7 @@ POLICIES = [
          "add a directive such as `default-src 'self'`"),
     Lint("csp/report-only-unheard", "a policy", is_unheard,
          "a report-only policy blocks nothing, and this one names no endpoint, so nobody is told of its violations",
-         "add `report-uri` and `report-to`; or send it as Content-Security-Policy"),
+         "add an endpoint, such as `report-uri /csp`; or send it as Content-Security-Policy"),
     Lint("csp/comma", "a policy", comma, "a comma ends a policy, and `{meant}` stands behind it as another",
          "write a blank between sources, and a semicolon between directives"),
 ]
