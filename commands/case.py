@@ -915,10 +915,19 @@ class Case:
     @property
     def whole_again(self):
         """What to do that the body comes whole."""
+        if self.get("Transfer-Encoding") is not None:
+            return "send each chunk whole, and behind them the last one (0, CR LF, CR LF)"
         return "let Content-Length say %d" % self.count if self.is_of_text else "send all of it, and its right length"
 
     @property
+    def framing_header(self):
+        """The header by which a body's end is known."""
+        return "Content-Length" if self.get("Transfer-Encoding") is None else "Transfer-Encoding"
+
+    @property
     def or_unfit(self):
+        if self.get("Transfer-Encoding") is not None:
+            return ": its chunks are broken, or end early"
         return ", or does not fit it" if self.wrong_length is None else ""
 
     @property
