@@ -995,9 +995,8 @@ uint32_t fiorrudda_number(fiorrudda_handle *fetch, uint32_t which, uint64_t *num
 //     if (code == FIORRUDDA_NO) printf("refused at %.*s\n", (int)len, (char *)room); // /documents/0/url
 
 // Plays a scenario over its own servers, from its own time on: its documents one after another, over one book, with
-// no thread. Writes the text that `fetchplay play` writes of it; where documents share the book, of one order in
-// which threads may play. The scenario is the bytes of its JSON. The same scenario gives the same text, so a caller
-// that has too little room may call again.
+// no thread. Writes the text of that play, as `fetchplay play` writes one. The scenario is the bytes of its JSON, of
+// any length. A call with too little room plays too, and the next call plays again.
 //
 // FIORRUDDA_OK; FIORRUDDA_NO where the scenario is refused, and then `room` has the place: `json`, or the way from
 // the root to the value, as `/documents/0/url`; FIORRUDDA_TOO_SHORT where `room` has less than `len` bytes for

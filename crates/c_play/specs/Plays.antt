@@ -11,8 +11,8 @@ use Rattle.play_text.specs.Text.{play_text}
 use Rattle.c_handle.specs.Codes.{IsWritten}
 use Rattle.c_handle.specs.declared.codes.TheConstants.{NO, OK, TOO_SHORT}
 
--- The text is that of a play of the scenario, in whose history one document's entries stand after another's.
-pub record IsTextOfPlay (scenario : Scenario) (text : Text) : Type 0 where
+-- The text is that of a play of the scenario, in whose history entries stand in the order of their documents' numbers.
+pub record IsTextInOrder (scenario : Scenario) (text : Text) : Type 0 where
   pub transcripts : List Transcript
   pub history : List Entry
   pub is_play : IsPlay scenario transcripts history
@@ -22,15 +22,15 @@ pub record IsTextOfPlay (scenario : Scenario) (text : Text) : Type 0 where
 -- Such a text is written.
 pub record IsPrinted (scenario : Scenario) (room after : Text) (len code : ℕ) : Type 0 where
   pub text : Text
-  pub of : IsTextOfPlay scenario text
+  pub of : IsTextInOrder scenario text
   pub written : IsWritten text room after len code
 
--- The place is written, and the code tells that the scenario is refused.
+-- The place is written as texts are, and NO stands where a text that is written has OK.
 pub record IsRefusedAt (place room after : Text) (len code : ℕ) : Type 0 where
-  pub written : ℕ
-  pub is : IsWritten place room after len written
-  pub refused : written ≡ OK → code ≡ NO
-  pub short : written ≡ TOO_SHORT → code ≡ TOO_SHORT
+  pub written_code : ℕ
+  pub written : IsWritten place room after len written_code
+  pub refused : written_code ≡ OK → code ≡ NO
+  pub short : written_code ≡ TOO_SHORT → code ≡ TOO_SHORT
 
 -- what is told of the scenario that the bytes are, or of the place at which they are refused
 abbrev pub IsPlayed : Result Scenario Place → Text → Text → ℕ → ℕ → Type 0

@@ -1,7 +1,7 @@
 // A scenario, played and printed.
 ghost use Rattle.std.specs.Prelude.{◌≡◌, ◌≢◌, IfOk};
 ghost use Rattle.c_handle.specs.Codes.{IsKept};
-ghost use Rattle.c_play.specs.Plays.{IsPlayed, IsRefusedAt, IsTextOfPlay};
+ghost use Rattle.c_play.specs.Plays.{IsPlayed, IsRefusedAt, IsTextInOrder};
 ghost use Rattle.script_reading.specs.Scenarios.{scenario_of};
 ghost use Rattle.script_scenarios.specs.Valid.{IsValid};
 
@@ -17,7 +17,7 @@ use value_bytes::OutOfMemory;
 // The text of a play of the scenario.
 fn printed(alloc: Global, scenario: &Scenario) -> Result<GrowingText, OutOfMemory>
     requires { IsValid scenario.now }
-    ensures { IfOk result (λ text. IsTextOfPlay scenario.entry.now text.bytes.items) }
+    ensures { IfOk result (λ text. IsTextInOrder scenario.entry.now text.bytes.items) }
 {
     let played = play_in_turn(alloc, scenario)?;
     let mut text = GrowingText::new(alloc);
@@ -39,9 +39,8 @@ fn refused(place: &[u8], room: &mut [u8], len: &mut usize) -> u32
 }
 
 /// Plays a scenario over its own servers, from its own time on: its documents one after another, over one book, with no
-/// thread. Writes the text that `fetchplay play` writes of it; where documents share the book, of one order in which
-/// threads may play. The scenario is the bytes of its JSON. The same scenario gives the same text, so a caller that has
-/// too little room may call again.
+/// thread. Writes the text of that play, as `fetchplay play` writes one. The scenario is the bytes of its JSON, of any
+/// length. A call with too little room plays too, and the next call plays again.
 ///
 /// `OK`; `NO` where the scenario is refused, and then `room` has the place: `json`, or the way from the root to the
 /// value, as `/documents/0/url`; `TOO_SHORT` where `room` has less than `len` bytes for either; `OUT_OF_MEMORY`. Except
