@@ -2,14 +2,17 @@
 """What a fetch costs through the C library: bench/embed.py [FOLDER [FETCHPLAY]], where bin/lib left it, out/ where none is
 given, and the proved fetchplay, as crates/fetchplay/out/fetchplay.
 
-It prints the instructions, by callgrind, that one more fetch of the same kind takes: those of the library's calls, as
-embed/play makes them; those of the one call that plays it all, fiorrudda_play; and those of all that fetchplay does."""
+It prints the instructions, by callgrind, that one more fetch of the same kind takes: those of the embed/play makes them; those of the one call that plays it all, fiorrudda_play; and those of all that fetchplay does.
+
+    bench/embed.py --calls [FOLDER]     measures each call alone, and writes embed/costs, of which embed/header takes what
+                                        include/fiorrudda.h says"""
 import json
 import pathlib
 import re
 import subprocess
 import sys
 import tempfile
+import time
 
 TOP = pathlib.Path(__file__).resolve().parent.parent
 MORE = 10
@@ -50,7 +53,25 @@ def one_more(words, asked, only, room, read):
     return (many - few) // MORE
 
 
+ABOUT = """\
+# Of each call of the C library, as bench/calls.c makes it: its name, the nanoseconds of the fastest of 2,000 calls, and the
+# bytes that it asks the heap for. Written by bench/embed.py --calls on %(day)s: do not edit.
+"""
+
+
+def calls(built):
+    """Measures each call alone."""
+    with tempfile.TemporaryDirectory() as folder:
+        program = pathlib.Path(folder) / "calls"
+        made = ["cc", "-std=gnu11", "-O2", "-Wl,--wrap=malloc,--wrap=realloc", f"-I{built}/include", TOP / "bench/calls.c"]
+        subprocess.run([*made, built / "lib/libfiorrudda.a", "-o", program], check=True)
+        told = subprocess.run([program], stdout=subprocess.PIPE, text=True, check=True).stdout
+    (TOP / "embed/costs").write_text(ABOUT % {"day": time.strftime("%d %B %Y").lstrip("0")} + told)
+
+
 def main():
+    if sys.argv[1:2] == ["--calls"]:
+        return calls(pathlib.Path(sys.argv[2] if sys.argv[2:] else TOP / "out"))
     built = pathlib.Path(sys.argv[1] if sys.argv[1:] else TOP / "out")
     with tempfile.TemporaryDirectory() as folder:
         room = pathlib.Path(folder)

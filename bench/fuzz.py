@@ -54,9 +54,8 @@ def answers_of(tree):
             if 'raw' in rule:
                 yield rule['raw'].encode()
             else:
-                head = 'HTTP/1.1 %d Scripted\r\n' % rule['status']
-                head += ''.join('%s: %s\r\n' % tuple(pair) for pair in rule.get('headers', []))
-                yield (head + '\r\n' + rule.get('body', '')).encode()
+                lines = ''.join(f'{name}: {value}\r\n' for name, value in rule.get('headers', []))
+                yield f"HTTP/1.1 {rule['status']} Scripted\r\n{lines}\r\n{rule.get('body', '')}".encode()
 
 
 TEXTS = examples()
@@ -209,7 +208,7 @@ def mutate_tree(rng, tree):
 
 
 def rng_of(seed, kind, number):
-    return random.Random('%d %s %d' % (seed, kind, number))
+    return random.Random(f'{seed} {kind} {number}')
 
 
 def bad_scenario(seed, number):
@@ -388,13 +387,13 @@ def judged(program, text):
             wrong.append('status 0 with another output or a complaint')
     elif status == 2:
         if output or not REFUSAL.fullmatch(complaints):
-            wrong.append('status 2 with an output or another complaint %r' % complaints[:100])
+            wrong.append(f'status 2 with an output or another complaint {complaints[:100]!r}')
     else:
-        wrong.append('status %d, complaints %r' % (status, complaints[:100]))
+        wrong.append(f'status {status}, complaints {complaints[:100]!r}')
     if seconds > MOST_SECONDS:
-        wrong.append('%.1f seconds' % seconds)
+        wrong.append(f'{seconds:.1f} seconds')
     if kilobytes > MOST_KILOBYTES:
-        wrong.append('%d kilobytes' % kilobytes)
+        wrong.append(f'{kilobytes} kilobytes')
     return ran, wrong
 
 
@@ -426,7 +425,7 @@ class Counts:
             self.kinds[kind] = self.kinds.get(kind, 0) + 1
         self.seconds = max(self.seconds, ran[3])
         self.kilobytes = max(self.kilobytes, ran[4])
-        self.wrong.extend('%s: %s' % (name, one) for one in wrong)
+        self.wrong.extend(f'{name}: {one}' for one in wrong)
 
     def add(self, other):
         self.plays += other.plays
@@ -445,31 +444,31 @@ def worker(job):
     signal.signal(signal.SIGALRM, on_alarm)
     counts = Counts()
     for number in range(first, last):
-        name = '%s %d' % (kind, number)
+        name = f'{kind} {number}'
         if kind == 'scenario':
             text = bad_scenario(seed, number)
             ran, wrong = judged(program, text)
             if (ran[0] == 2 and b' at json\n' in ran[2]) == is_tree(text):
-                wrong.append('refused at json where it is a tree, or the other way round: %r' % ran[2][:80])
+                wrong.append(f'refused at json where it is a tree, or the other way round: {ran[2][:80]!r}')
             counts.note(name, ran, wrong)
             continue
         scenario, size = odd_answer(seed, number)
         outputs = []
         for pieces in (size, 4096, 65536):
             ran, wrong = judged(program, in_pieces(scenario, pieces))
-            counts.note('%s in pieces of %d' % (name, pieces), ran, wrong)
+            counts.note(f'{name} in pieces of {pieces}', ran, wrong)
             outputs.append(ran[:3])
         if any(output != outputs[0] for output in outputs):
-            counts.wrong.append('%s: not the same in pieces of %d, 4096 and 65536' % (name, size))
+            counts.wrong.append(f'{name}: not the same in pieces of {size}, 4096 and 65536')
         document = scenario['documents'][0]
         if (document['url'], document['script'][0].get('fetch')) == OWN:
             raw = scenario['servers'][0]['rules'][0]['raw'].encode()
             expected = seen(raw, b'https://a.test/', scenario['body_limit'])
             if expected is not None:
                 counts.checked += 1
-                if first_result(outputs[0][1]) != expected:
-                    counts.wrong.append('%s: the script sees %r and not %r' % (
-                        name, first_result(outputs[0][1])[:200], expected[:200]))
+                result = first_result(outputs[0][1])
+                if result != expected:
+                    counts.wrong.append(f'{name}: the script sees {result[:200]!r} and not {expected[:200]!r}')
     return counts
 
 
@@ -481,16 +480,16 @@ def fuzz(program, seed, kind, count, jobs):
     with multiprocessing.Pool(jobs) as pool:
         for part in pool.imap_unordered(worker, work):
             counts.add(part)
-    statuses = ', '.join('status %d: %d' % one for one in sorted(counts.statuses.items()))
-    print('%d %ss, %d plays: %s; at most %.2f s and %.1f MB; %d wrong; %d s in all' % (
-        count, kind, counts.plays, statuses, counts.seconds, counts.kilobytes / 1024, len(counts.wrong),
-        time.monotonic() - start))
+    statuses = ', '.join(f'status {status}: {plays}' for status, plays in sorted(counts.statuses.items()))
+    print(f'{count} {kind}s, {counts.plays} plays: {statuses}; at most {counts.seconds:.2f} s and '
+          f'{counts.kilobytes / 1024:.1f} MB; {len(counts.wrong)} wrong; {int(time.monotonic() - start)} s in all')
     if counts.checked:
-        print('  %d of them read by other code too' % counts.checked)
-    print('  %d kinds, the most frequent: %s' % (len(counts.kinds), ', '.join(
-        '%s %d' % (key.decode(), number) for key, number in sorted(counts.kinds.items(), key=lambda one: -one[1])[:24])))
+        print(f'  {counts.checked} of them read by other code too')
+    frequent = sorted(counts.kinds.items(), key=lambda one: -one[1])[:24]
+    shown = ', '.join(f'{key.decode()} {number}' for key, number in frequent)
+    print(f'  {len(counts.kinds)} kinds, the most frequent: {shown}')
     for wrong in counts.wrong[:20]:
-        print('  WRONG: ' + wrong)
+        print(f'  WRONG: {wrong}')
     sys.stdout.flush()
     return not counts.wrong
 
@@ -499,7 +498,7 @@ def built():
     program = os.environ.get('FETCHPLAY')
     if program:
         return program
-    script = 'source %s/common.bash; build_fetchplay; echo "$program"' % HERE
+    script = f'source {HERE}/common.bash; build_fetchplay; echo "$program"'
     return subprocess.run(['bash', '-c', script], check=True, capture_output=True).stdout.decode().split('\n')[-2]
 
 
@@ -520,7 +519,7 @@ def main():
         return 0
     resource.setrlimit(resource.RLIMIT_CORE, (0, 0))
     program = built()
-    print('seed %d' % words.seed)
+    print(f'seed {words.seed}')
     fine = fuzz(program, words.seed, 'scenario', words.scenarios, words.jobs)
     fine = fuzz(program, words.seed, 'answer', words.answers, words.jobs) and fine
     return 0 if fine else 1

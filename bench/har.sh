@@ -1,5 +1,5 @@
 #!/usr/bin/env bash
-# What bin/har takes for one recording of 10,000, 20,000 and 40,000 entries (bench/recordings.py), and --many for
+# What bin/har takes for one recording of 10,000, 20,000 and 40,000 entries (bench/recordings), and --many for
 # recordings with 50, 1,000 and 10,000, by 1, 2 and 4 jobs: the wall time, the processor time and the recordings in a
 # second, with all that is beside them (the start, the summary), and the memory of the largest process. The machine is to
 # do nothing else, and what it does is told (the load). FETCHPLAY names the program; a number as a word is that of
@@ -13,7 +13,7 @@ echo "the load before: $(cut -d ' ' -f 1-3 /proc/loadavg), of $(nproc) processor
 
 # One recording with so many entries.
 single() {
-    "$root/bench/recordings.py" "$1" >"$work/single.har"
+    "$root/bench/recordings" "$1" >"$work/single.har"
     /usr/bin/time -f '%e %U %S %M' -o "$work/time" "$root/bin/har" "$work/single.har" >/dev/null || [ $? = 1 ]
     tail -n 1 "$work/time" | awk -v entries="$1" -v size="$(stat -c %s "$work/single.har")" '{
         printf "%d entries, %d MB: %.2f s, %.2f s of processors, %d MB of memory\n",
@@ -23,7 +23,7 @@ single() {
 # So many recordings with so many entries each, which are one file, named again and again.
 measure() {
     local entries=$1 count=$2
-    "$root/bench/recordings.py" "$entries" >"$work/$entries.har"
+    "$root/bench/recordings" "$entries" >"$work/$entries.har"
     for ((i = 0; i < count; i++)); do printf '%s\n' "$work/$entries.har"; done >"$work/list"
     for jobs in 1 2 4; do
         rm -f "$work/lines"

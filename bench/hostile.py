@@ -46,7 +46,7 @@ def templates(size, asked):
 
 # What a fetch asks for, with placeholders in one part.
 def in_url(text):
-    return {'url': '/' + text}
+    return {'url': f'/{text}'}
 
 
 def in_header(text):
@@ -64,11 +64,11 @@ def filled(asked, documents, times):
 
 
 def header_lines(count):
-    return scenario([document([], [['%x' % i, ''] for i in range(count)])])
+    return scenario([document([], [[f'{i:x}', ''] for i in range(count)])])
 
 
 def directive_names(count):
-    return scenario([document([], [['Content-Security-Policy', ';'.join('d%d' % i for i in range(count))]])])
+    return scenario([document([], [['Content-Security-Policy', ';'.join(f'd{i}' for i in range(count))]])])
 
 
 def short_directives(count):
@@ -82,25 +82,25 @@ def short_policies(count):
 
 
 def integrity_tokens(count, times=1):
-    sources = ' '.join("'sha256-a%d'" % i for i in range(count))
-    tokens = ' '.join('sha256-a%d' % i for i in range(count))
+    sources = ' '.join(f"'sha256-a{i}'" for i in range(count))
+    tokens = ' '.join(f'sha256-a{i}' for i in range(count))
     load = {'load': {'kind': 'script', 'url': 'https://b.test/', 'crossorigin': 'anonymous', 'integrity': tokens}}
-    policy = ['Content-Security-Policy', 'script-src ' + sources]
+    policy = ['Content-Security-Policy', f'script-src {sources}']
     return scenario([document([{'repeat': times, 'do': [load]}], [policy])],
                     servers=[server([{'status': 200, 'body': 'a'}], 'https://b.test')])
 
 
 def integrity_hops(kind, count):
     """Twenty loads of 20 redirects with so many integrity tokens; of a script, beside as many hash-sources."""
-    sources = ' '.join("'sha256-a%d'" % i for i in range(count))
-    tokens = ' '.join('sha256-a%d' % i for i in range(count)) + ' sha256-none'
+    sources = ' '.join(f"'sha256-a{i}'" for i in range(count))
+    tokens = ' '.join([*(f'sha256-a{i}' for i in range(count)), 'sha256-none'])
     load = {'load': {'kind': kind, 'url': '/', 'crossorigin': 'anonymous', 'integrity': tokens}}
-    policy = 'script-src https: ' + sources if kind == 'script' else 'x'
+    policy = f'script-src https: {sources}' if kind == 'script' else 'x'
     return scenario([document([{'repeat': 20, 'do': [load]}], [['Content-Security-Policy', policy]])],
                     servers=[server([{'status': 302, 'headers': [['Location', '/']]}])])
 
 
-def lessons(count, names=','.join('x%06d' % i for i in range(5000))):
+def lessons(count, names=','.join(f'x{i:06d}' for i in range(5000))):
     """Documents whose preflights teach as much as these header names each time, until the text is long enough."""
     allowed = [['Access-Control-Allow-Origin', '*'], ['Access-Control-Allow-Methods', 'PUT'],
                ['Access-Control-Allow-Headers', names], ['Access-Control-Max-Age', '0']]
@@ -138,7 +138,7 @@ def violations(documents):
 
 def routes(count):
     return scenario([document([])] * 128,
-                    routes=[['http://r%d.t' % i, 'a'] for i in range(count)])
+                    routes=[[f'http://r{i}.t', 'a'] for i in range(count)])
 
 
 def nested_objects(size):
@@ -177,15 +177,16 @@ def zeros(size):
 
 def long_lessons(size):
     """Five preflights of a URL of so many bytes, each of which teaches as many names."""
-    return asking('https://b.test/' + 'a' * size, 5,
+    return asking(f"https://b.test/{'a' * size}", 5,
                   [['Access-Control-Allow-Methods', 'PUT'], ['Access-Control-Max-Age', '7200'],
                    ['Access-Control-Allow-Headers', ','.join(itertools.islice(short_names(3), size))]], method='PUT')
 
 
 def dots(size):
     """300 known hosts of so many dots, and 20 fetches from another one."""
-    hosts = [{'host': '.' * size + 'b%dz' % i, 'subdomains': False, 'until': 9} for i in range(300)]
-    fetch = {'fetch': {'url': 'http://' + '.' * size + 'a/', 'mode': 'same-origin', 'referrer': 'none'}}
+    dots = '.' * size
+    hosts = [{'host': f'{dots}b{i}z', 'subdomains': False, 'until': 9} for i in range(300)]
+    fetch = {'fetch': {'url': f'http://{dots}a/', 'mode': 'same-origin', 'referrer': 'none'}}
     return scenario([document([{'repeat': 20, 'do': [fetch]}], url='http://d.test/')], hsts=hosts)
 
 
@@ -197,7 +198,7 @@ def exposed_names(size):
 
 def allowed_names(size):
     """Fifty preflights that allow so many bytes of names, and a request's name for each 1,000, the last not allowed."""
-    names = ['x%02d' % i for i in range(size // 1000)]
+    names = [f'x{i:02d}' for i in range(size // 1000)]
     return asking('https://b.test/', 50,
                   [['Access-Control-Allow-Methods', 'PUT'],
                    ['Access-Control-Allow-Headers', ','.join(['zzz'] * (size // 4) + names[:-1])]],
@@ -282,7 +283,7 @@ def run(command, path, limit=None, environment=None):
 def instructions(word, path):
     """The instructions of a play, by callgrind."""
     with open(path, 'rb') as text:
-        ran = subprocess.run(['valgrind', '--tool=callgrind', '--callgrind-out-file=' + os.path.join(work, 'counts'),
+        ran = subprocess.run(['valgrind', '--tool=callgrind', f"--callgrind-out-file={os.path.join(work, 'counts')}",
                               program, word], stdin=text, stdout=subprocess.DEVNULL, stderr=subprocess.PIPE)
     told = re.search(rb'Collected : (\d+)', ran.stderr)
     return int(told.group(1)) if told else None
@@ -298,30 +299,30 @@ def measure(case, size):
     counted = instructions(case.word, path) if seconds < 2 and '--quick' not in words else None
     room = 64 * MEGABYTE + 6 * written + 20 * len(text)
     if memory > room:
-        problems.append('%s, %d: %d MB, where %d are room' % (case.name, size, memory // MEGABYTE, room // MEGABYTE))
-    print('  %9d: %9d bytes, status %d, %10d written, %6.2f s, %s%5d MB' % (
-        size, len(text), status, written, seconds,
-        '%14d instructions, ' % counted if counted else '', memory // MEGABYTE), end='')
+        problems.append(f'{case.name}, {size}: {memory // MEGABYTE} MB, where {room // MEGABYTE} are room')
+    told = f'{counted:14d} instructions, ' if counted else ''
+    print(f'  {size:9d}: {len(text):9d} bytes, status {status}, {written:10d} written, {seconds:6.2f} s, '
+          f'{told}{memory // MEGABYTE:5d} MB', end='')
     return counted, seconds, memory
 
 
 def measured(case):
-    print('%s (%s)' % (case.name, case.word))
+    print(f'{case.name} ({case.word})')
     before = None
     for size in [case.first, 2 * case.first, 4 * case.first]:
         counted, seconds, memory = measure(case, size)
         if before:
             grown = counted / before[0] if counted and before[0] else seconds / max(before[1], 0.001)
-            print(', %.2f and %.2f times' % (grown, memory / before[2]), end='')
+            print(f', {grown:.2f} and {memory / before[2]:.2f} times', end='')
             if grown > 2.3 and (counted or before[1] > 0.5):
-                problems.append('%s, %d: %.2f times the time' % (case.name, size, grown))
+                problems.append(f'{case.name}, {size}: {grown:.2f} times the time')
         print(flush=True)
         before = counted, seconds, memory
     if '--long' in words:
         _, seconds, _ = measure(case, case.longest)
         print(flush=True)
         if seconds > 10:
-            problems.append('%s, %d: %.1f s' % (case.name, case.longest, seconds))
+            problems.append(f'{case.name}, {case.longest}: {seconds:.1f} s')
 
 
 def limited(kilobytes):
@@ -342,7 +343,7 @@ def measured_room():
         if status != 0:
             break
         least = kilobytes
-    print('  plays with %s kilobytes' % least, flush=True)
+    print(f'  plays with {least} kilobytes', flush=True)
     if least is None or least > 400000:
         problems.append('`gen 64` does not play with 400000 kilobytes')
 
@@ -355,7 +356,7 @@ def quiet_server(answer, kept):
         kept.append(listener.accept()[0])
         kept[-1].sendall(answer)
     threading.Thread(target=serve, daemon=True).start()
-    return '127.0.0.1:%d' % listener.getsockname()[1]
+    return f'127.0.0.1:{listener.getsockname()[1]}'
 
 
 def measured_silence():
@@ -379,9 +380,9 @@ def measured_silence():
             problems.append('a server that never answers is waited for')
             return
     came = [line.strip() for line in ran.stdout.decode().splitlines() if re.match(r' *(result|body)', line)]
-    print('  ended after %.1f s: %s' % (time.time() - began, ', '.join(came)), flush=True)
+    print(f"  ended after {time.time() - began:.1f} s: {', '.join(came)}", flush=True)
     if came != ['result error 24 LinkFault', 'result cors 200 http://c.test/', 'body fault 5']:
-        problems.append('a server that is silent: ' + ', '.join(came))
+        problems.append(f"a server that is silent: {', '.join(came)}")
 
 
 for case in CASES:
@@ -393,5 +394,5 @@ if not wanted or 'net' in wanted:
     measured_silence()
 
 for problem in problems:
-    print('OVER: ' + problem)
-print('%d over' % len(problems))
+    print(f'OVER: {problem}')
+print(f'{len(problems)} over')

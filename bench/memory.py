@@ -28,7 +28,7 @@ def worked(title):
 
 def run(words, text, number, later, program=program):
     """Status, output, complaints, and how many requests for memory there were and were refused."""
-    count = os.path.join(work, 'count.%s.%d.%d' % (''.join(words), number, later))
+    count = os.path.join(work, f"count.{''.join(words)}.{number}.{later}")
     environment = dict(os.environ, LD_PRELOAD=shim, REFUSE=str(number), REFUSE_LATER=str(later), REFUSE_COUNT=count)
     ran = subprocess.run([program] + words, input=text, capture_output=True, env=environment, timeout=60)
     try:
@@ -95,7 +95,7 @@ def judge(name, ran, is_text, is_front, number=0):
         return '5 part' if output else '5'
     if status == 1 and output == b'' and complaints == USAGE and number <= MOST_WORDS:
         return '1'
-    problems.append('%s: status %d, %d bytes of output, complaints %r' % (name, status, len(output), complaints[:200]))
+    problems.append(f'{name}: status {status}, {len(output)} bytes of output, complaints {complaints[:200]!r}')
     return 'else'
 
 
@@ -104,13 +104,13 @@ def tried(name, words, text, numbers, later, is_text, is_front):
     came, unseen = {}, 0
     with ThreadPoolExecutor(jobs) as pool:
         for number, ran in zip(numbers, pool.map(lambda n: run(words, text, n, later), numbers)):
-            kind = judge('%s, number %d' % (name, number), ran, is_text, is_front, number)
+            kind = judge(f'{name}, number {number}', ran, is_text, is_front, number)
             came[kind] = came.get(kind, 0) + 1
             unseen += ran[4] == 0
-    print('%s: %d runs: status 0 with its text %d, status 5 with no output %d, with a part of the text %d, '
-          'status 1 without words %d, else %d%s' % (
-        name, len(numbers), came.get('0', 0), came.get('5', 0), came.get('5 part', 0), came.get('1', 0), came.get('else', 0),
-        '; in %d of them no request had that number' % unseen if unseen else ''))
+    lacks = f'; in {unseen} of them no request had that number' if unseen else ''
+    print(f"{name}: {len(numbers)} runs: status 0 with its text {came.get('0', 0)}, status 5 with no output "
+          f"{came.get('5', 0)}, with a part of the text {came.get('5 part', 0)}, status 1 without words "
+          f"{came.get('1', 0)}, else {came.get('else', 0)}{lacks}")
     sys.stdout.flush()
 
 
@@ -120,7 +120,7 @@ def document():
     is_text, is_front = is_plain(stored)
     status, output, complaints, asked, _ = run(['play'], text, 0, 0)
     judge('one document, nothing refused', (status, output, complaints, asked, 0), is_text, is_front)
-    print('one document: %s requests for memory' % asked)
+    print(f'one document: {asked} requests for memory')
     for later, words in ((0, 'one document, a number refused'), (1, 'one document, a number and all later ones')):
         tried(words, ['play'], text, range(1, asked + 1), later, is_text, is_front)
 
@@ -134,7 +134,7 @@ def threads():
         status, output, complaints, asked, _ = run(['play'], text, 0, 0)
         judge('two documents, nothing refused', (status, output, complaints, asked, 0), is_text, is_front)
         most = max(most, asked)
-    print('two documents: at most %d requests for memory in 20 runs' % most)
+    print(f'two documents: at most {most} requests for memory in 20 runs')
     for later, words in ((0, 'two documents, every 50th number'), (1, 'two documents, every 50th and all later ones')):
         tried(words, ['play'], text, range(50, most + 1, 50), later, is_text, is_front)
     tried('two documents, each number', ['play'], text, range(1, most + 1), 0, is_text, is_front)
@@ -146,25 +146,26 @@ def generated():
     is_text, is_front = is_plain(output)
     expected = (b'gen 64\ndocuments 64\nfetches 12800\nrequests 15360\ncalls 28160\nresponses 12800\nerrors 0\n')
     if (status, output, complaints) != (0, expected, b''):
-        problems.append('gen 64: status %d, output %r' % (status, output[:200]))
-    print('gen 64: %s requests for memory' % asked)
+        problems.append(f'gen 64: status {status}, output {output[:200]!r}')
+    print(f'gen 64: {asked} requests for memory')
     for later in (0, 1):
         ran = run(['gen', '64'], b'', 20000, later)
-        print('gen 64, number 20,000%s refused: status %d' % (' and all later ones' if later else '', ran[0]))
+        print(f"gen 64, number 20,000{' and all later ones' if later else ''} refused: status {ran[0]}")
         if ran[0] != 5 or ran[2] != COMPLAINT or not is_front(ran[1]):
-            problems.append('gen 64, number 20,000: status %d' % ran[0])
+            problems.append(f'gen 64, number 20,000: status {ran[0]}')
     tried('gen 64, every 5,000th number', ['gen', '64'], b'', range(5000, asked + 1, 5000), 0, is_text, is_front)
 
 
 def calls():
-    """Two threads with 500 calls each on one book, every 50th number. A call that is refused is left out, and the rest made."""
+    """Two threads with 500 calls each on one book, every 50th number. A call that is refused is left out, and the rest
+    made."""
     with open(os.path.join(crates, 'rows_books', 'stdout'), 'rb') as file:
         stored = file.read()
     stored = stored[stored.index(b'# one book\n'):]
     status, output, complaints, asked, _ = run([], b'', 0, 0, threads_program)
     if (status, output) != (0, stored):
-        problems.append('two threads, nothing refused: status %d' % status)
-    print('two threads: %s requests for memory' % asked)
+        problems.append(f'two threads, nothing refused: status {status}')
+    print(f'two threads: {asked} requests for memory')
     for later, words in ((0, 'two threads, every 50th number'), (1, 'two threads, every 50th and all later ones')):
         came = {}
         numbers = range(50, asked + 1, 50)
@@ -179,9 +180,10 @@ def calls():
                     kind = 'refused outside of the calls'
                 else:
                     kind = 'else'
-                    problems.append('%s, number %d: status %d, output %r' % (words, number, ran[0], ran[1][-200:]))
+                    problems.append(f'{words}, number {number}: status {ran[0]}, output {ran[1][-200:]!r}')
                 came[kind] = came.get(kind, 0) + 1
-        print('%s: %d runs: %s' % (words, len(numbers), ', '.join('%s %d' % one for one in sorted(came.items()))))
+        shown = ', '.join(f'{kind} {count}' for kind, count in sorted(came.items()))
+        print(f'{words}: {len(numbers)} runs: {shown}')
         sys.stdout.flush()
 
 
@@ -190,6 +192,6 @@ threads()
 calls()
 generated()
 for problem in problems[:20]:
-    print('PROBLEM: ' + problem)
-print('%d problems' % len(problems))
+    print(f'PROBLEM: {problem}')
+print(f'{len(problems)} problems')
 sys.exit(1 if problems else 0)

@@ -29,19 +29,19 @@ def alike(documents, rules, policies, url):
     """So many documents that fetch one URL up to a limit."""
     fetch = {"fetch": {"url": url, "referrer": "none"}}
     script = [{"repeat": 1000, "do": [fetch]}, {"repeat": 24, "do": [fetch]}]
-    return scenario(rules, [{"url": "http://a.test/%d" % number, "headers": policies, "script": script}
+    return scenario(rules, [{"url": f"http://a.test/{number}", "headers": policies, "script": script}
                             for number in range(documents)])
 
 
 def long(documents):
     """Long URLs and bodies."""
     rules = [{"method": "POST", "status": 200, "body": "r" * 9000}, {"status": 200, "body": "b" * 9000}]
-    return alike(documents, rules, [[REPORT_ONLY, "connect-src 'none'; report-uri /r /s"]], "/" + "x" * 8000 + "#f")
+    return alike(documents, rules, [[REPORT_ONLY, "connect-src 'none'; report-uri /r /s"]], f"/{'x' * 8000}#f")
 
 
 def circles(documents, length):
     """Each request is redirected to its own URL, 20 times, and 16 policies are violated."""
-    url = "/" + "p" * length
+    url = f"/{'p' * length}"
     rules = [{"status": 302, "headers": [["Location", url]]}]
     return alike(documents, rules, [[REPORT_ONLY, "connect-src 'none'; report-uri /r"]] * 16, url)
 

@@ -97,22 +97,21 @@ for name, text, wanted in CASES:
     for kilobytes in KILOBYTES:
         status = played(path, kilobytes)
         if kilobytes == 8192 and status != wanted:
-            problems.append('%s: status %d' % (name, status))
+            problems.append(f'{name}: status {status}')
         if status != wanted:
             break
         least = kilobytes
-    line = '%s (%d bytes): status %d' % (name, len(text), wanted)
-    line += ' with a stack of %s kilobytes' % least
+    line = f'{name} ({len(text)} bytes): status {wanted} with a stack of {least} kilobytes'
     if '--used' in sys.argv:
         threads = used(path)
         if threads:
-            line += '; the most that a thread used: %d bytes (first thread), %d bytes (others)' % (
-                max([size for number, size, _ in threads if number == 1] or [0]),
-                max([size for number, size, _ in threads if number != 1] or [0]))
+            first, others = (max([size for number, size, _ in threads if (number == 1) is is_first], default=0)
+                             for is_first in (True, False))
+            line += f'; the most that a thread used: {first} bytes (first thread), {others} bytes (others)'
     print(line)
     sys.stdout.flush()
 
 for problem in problems:
-    print('PROBLEM: ' + problem)
-print('%d problems' % len(problems))
+    print(f'PROBLEM: {problem}')
+print(f'{len(problems)} problems')
 sys.exit(1 if problems else 0)

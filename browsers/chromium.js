@@ -10,7 +10,7 @@ const { spawn, spawnSync } = require("child_process");
 const { watch, begin, outcome, call, scriptTag } = require("./page.js");
 
 const NAMES = process.env.CHROMIUM ? [process.env.CHROMIUM] : ["chromium", "chromium-browser", "google-chrome"];
-const PATIENCE = 60000; // milliseconds
+const PATIENCE = 600000; // milliseconds
 const SETTLE = 40; // milliseconds until the last events of a command are there
 const SWITCHED_OFF = ["HttpsUpgrades", "HttpsFirstModeV2", "HttpsFirstModeIncognito", "HttpsFirstBalancedMode",
   "HttpsFirstBalancedModeAutoEnable", "LocalNetworkAccessChecks", "LocalNetworkAccessChecksWarn",
@@ -63,12 +63,14 @@ class Chromium {
   constructor(program, servers, authority) {
     this.version = program.version;
     this.servers = servers;
+    this.settle = SETTLE;
     this.folder = fs.mkdtempSync(path.join(os.tmpdir(), "in-browser-"));
     writeProfile(this.folder);
     const words = wordsFor(this.folder, servers.port, authority.keyHash());
     this.process = spawn(program.name, words, { stdio: ["ignore", "ignore", "ignore", "pipe", "pipe"], detached: true });
-    this.gone = new Promise((resolve) => this.process.on("exit", resolve));
-    this.process.on("error", () => {});
+    this.hasEnded = false;
+    this.gone = new Promise((resolve) => ["exit", "error"].forEach((name) => this.process.on(name, resolve)))
+      .then(() => this.end());
     this.asked = new Map();
     this.listeners = new Map();
     this.count = 0;
@@ -94,7 +96,17 @@ class Chromium {
     }
   }
 
+  // The browser is gone: what was asked of it is not answered any more.
+  end() {
+    this.hasEnded = true;
+    this.asked.forEach((answered) => answered({ error: { message: "the browser has ended" } }));
+    this.asked.clear();
+  }
+
   ask(method, params = {}, sessionId = undefined) {
+    if (this.hasEnded) {
+      return Promise.reject(new Error("chromium: " + method + ": the browser has ended"));
+    }
     this.count += 1;
     const id = this.count;
     return new Promise((resolve, reject) => {
@@ -110,9 +122,13 @@ class Chromium {
   // A page: in the browser's own profile, or in another one, which is forgotten with the page.
   async session(apart) {
     const { browserContextId } = apart ? await this.ask("Target.createBrowserContext", { disposeOnDetach: true }) : {};
+    return this.pageIn(browserContextId, true);
+  }
+
+  async pageIn(browserContextId, isFirst) {
     const { targetId } = await this.ask("Target.createTarget", { url: "about:blank", browserContextId });
     const { sessionId } = await this.ask("Target.attachToTarget", { targetId, flatten: true });
-    const session = new Session(this, sessionId, browserContextId);
+    const session = new Session(this, sessionId, browserContextId, isFirst);
     this.listeners.set(sessionId, (message) => session.hear(message));
     await Promise.all(["Page.enable", "Runtime.enable", "Network.enable"].map((method) => session.ask(method)));
     return session;
@@ -142,10 +158,11 @@ class Chromium {
 }
 
 class Session {
-  constructor(browser, id, context) {
+  constructor(browser, id, context, isFirst) {
     this.browser = browser;
     this.id = id;
     this.context = context;
+    this.isFirst = isFirst;
     this.types = new Map();
     this.ended = [];
   }
@@ -213,14 +230,19 @@ class Session {
     if (command.load !== undefined && command.load.kind === "manifest") {
       await this.ask("Page.getAppManifest").catch(() => null);
     }
-    const seen = JSON.parse(await this.value(call(outcome, SETTLE)));
+    const seen = JSON.parse(await this.value(call(outcome, this.browser.settle)));
     const reasons = this.ended.filter((end) => end.reason !== null).map((end) => end.reason);
     return { ...seen, reasons, finished: this.ended.some((end) => end.reason === null) };
   }
 
+  // Another page of the same profile.
+  beside() {
+    return this.browser.pageIn(this.context, false);
+  }
+
   async close() {
     this.browser.listeners.delete(this.id);
-    if (this.context !== undefined) {
+    if (this.isFirst && this.context !== undefined) {
       await this.browser.ask("Target.disposeBrowserContext", { browserContextId: this.context }).catch(() => null);
     }
   }

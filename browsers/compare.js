@@ -1,7 +1,8 @@
 "use strict";
 
 // Compares the engine's play of a scenario with a browser's, command by command. A difference says `what` differs, with
-// the engine's value and the browser's; null is what was not there. What is not compared is listed in browsers/README.md.
+// the engine's value and the browser's; null is what was not there. What is not compared is listed in browsers/README.md;
+// nor is what the observation leaves out, since it was not seen (observation.js).
 
 const { errorsOf } = require("./reasons.js");
 const { ruleFor } = require("./scripted.js");
@@ -85,15 +86,18 @@ function headerDifferences(command, ours, theirs) {
   });
 }
 
+// What two requests of the same key differ in, as far as it was seen.
+function pairDifferences(command, ours, theirs) {
+  const headers = theirs.headers === undefined ? [] : headerDifferences(command, ours, theirs);
+  const isSame = theirs.body === undefined || ours.body === theirs.body;
+  return isSame ? headers
+    : [...headers, { what: "body sent", request: keyOf(ours), engine: ours.body, browser: theirs.body }];
+}
+
 function requestDifferences(ours, theirs) {
-  return paired(ours.requests, theirs.requests).flatMap(([one, other]) => {
-    if (one === null || other === null) {
-      return [{ what: "request", engine: one && keyOf(one), browser: other && keyOf(other) }];
-    }
-    const bodies = one.body === other.body ? []
-      : [{ what: "body sent", request: keyOf(one), engine: one.body, browser: other.body }];
-    return [...headerDifferences(ours.command, one, other), ...bodies];
-  });
+  return theirs.requests === undefined ? [] : paired(ours.requests, theirs.requests).flatMap(([one, other]) => (
+    one === null || other === null ? [{ what: "request", engine: one && keyOf(one), browser: other && keyOf(other) }]
+      : pairDifferences(ours.command, one, other)));
 }
 
 // ---- violations: how often each is told, in any order
@@ -102,6 +106,9 @@ const toldAs = (violation) => [violation.policy, violation.enforced ? "enforce" 
   violation.url.replace(/#.*$/, "")].join(" ");
 
 function violationDifferences(ours, theirs) {
+  if (theirs.violations === undefined) {
+    return [];
+  }
   const rest = theirs.violations.map(toldAs);
   const missing = ours.violations.map(toldAs).filter((told) => {
     const at = rest.indexOf(told);
@@ -126,6 +133,9 @@ function joined(headers) {
 }
 
 function responseHeaderDifferences(ours, theirs) {
+  if (theirs.headers === undefined) {
+    return [];
+  }
   const [engine, browser] = [joined(ours.headers), joined(theirs.headers)];
   return [...new Set([...engine.keys(), ...browser.keys()])].filter((name) => engine.get(name) !== browser.get(name))
     .map((name) => ({ what: "response header", name, engine: engine.has(name) ? engine.get(name) : null,
@@ -134,14 +144,21 @@ function responseHeaderDifferences(ours, theirs) {
 
 const bodyText = (body) => (body.end === "whole" ? "whole " + body.hex : body.end === "fault" ? "cut" : body.end);
 
-// An upload listener is a part of XMLHttpRequest, which tells no type, and no body of none.
-function responseDifferences(ours, theirs) {
-  const parts = ["type", "status", "url"].filter((part) => theirs[part] !== null && ours[part] !== theirs[part])
-    .map((part) => ({ what: part, engine: ours[part], browser: theirs[part] }));
+// XMLHttpRequest, and whoever else tells no type, tells no body of none.
+function bodyDifferences(ours, theirs) {
+  if (theirs.body === undefined) {
+    return [];
+  }
   const [one, other] = [bodyText(ours.body), bodyText(theirs.body)];
-  const sameBody = one === other || one === "toobig" || (theirs.type === null && one === "none" && other === "whole ");
-  return [...parts, ...responseHeaderDifferences(ours, theirs),
-    ...(sameBody ? [] : [{ what: "body", engine: one, browser: other }])];
+  const isSame = one === other || one === "toobig" || (theirs.type === null && one === "none" && other === "whole ");
+  return isSame ? [] : [{ what: "body", engine: one, browser: other }];
+}
+
+function responseDifferences(ours, theirs) {
+  const isSeen = (part) => theirs[part] !== null && theirs[part] !== undefined;
+  const parts = ["type", "status", "url"].filter((part) => isSeen(part) && ours[part] !== theirs[part])
+    .map((part) => ({ what: part, engine: ours[part], browser: theirs[part] }));
+  return [...parts, ...responseHeaderDifferences(ours, theirs), ...bodyDifferences(ours, theirs)];
 }
 
 function toldResult(result) {
@@ -158,7 +175,7 @@ function isOpen(ours, theirs, statusOfLoad) {
 }
 
 function reasonDifferences(browser, ours, theirs) {
-  const names = errorsOf(browser, theirs.reasons);
+  const names = errorsOf(browser, theirs.reasons || []);
   if (names === null || ours.result.fault || !ours.result.name || names.includes(ours.result.name)) {
     return [];
   }
@@ -166,6 +183,9 @@ function reasonDifferences(browser, ours, theirs) {
 }
 
 function resultDifferences(browser, ours, theirs, statusOfLoad) {
+  if (theirs.result === undefined) {
+    return [];
+  }
   if (ours.result.result !== theirs.result.result) {
     return isOpen(ours, theirs, statusOfLoad) ? []
       : [{ what: "result", engine: toldResult(ours.result), browser: toldResult(theirs.result) }];
@@ -191,9 +211,18 @@ function compareCommand(scenario, browser, ours, theirs) {
     ...resultDifferences(browser, ours, theirs, statusOf(scenario, ours.requests))];
 }
 
+const NOT_SEEN = { result: "not seen", type: null };
+
+// A command of an observation as rules and pages look at it: what was not seen is empty.
+function whole(theirs) {
+  const requests = (theirs.requests || []).map((request) => ({ headers: [], body: "", ...request }));
+  return { reasons: [], violations: [], result: NOT_SEEN, ...theirs, requests };
+}
+
 // One command of both sides, compared.
 function compared(scenario, browser, place, engine, theirs) {
-  return { place, engine, browser: theirs, differences: compareCommand(scenario, browser, engine, theirs) };
+  return { place, engine, browser: theirs && whole(theirs),
+    differences: compareCommand(scenario, browser, engine, theirs) };
 }
 
 // The commands of both sides by their places, each with its differences.

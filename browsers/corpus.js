@@ -6,6 +6,7 @@
 const fs = require("fs");
 const path = require("path");
 const { isUnasked } = require("./compare.js");
+const { readObservation } = require("./observation.js");
 
 const ROOT = path.join(__dirname, "corpus");
 
@@ -30,12 +31,12 @@ function hasAnswers(name, browser) {
 }
 
 function answers(name, browser) {
-  return JSON.parse(fs.readFileSync(answersFile(name, browser), "utf8"));
+  return readObservation(fs.readFileSync(answersFile(name, browser), "utf8"));
 }
 
-// Stores a play without the headers that no comparison looks at, a command on a line.
+// Stores a play without the headers that no comparison looks at, and without times, a command on a line.
 function store(name, played) {
-  const trimmed = (request, command) => ({ ...request,
+  const trimmed = ({ at, ...request }, command) => ({ ...request,
     headers: request.headers.filter(([header]) => !isUnasked(header, command)) });
   const kept = played.commands.map(({ command, ...one }) => ({ ...one,
     requests: one.requests.map((request) => trimmed(request, command)) }));

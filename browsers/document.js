@@ -5,8 +5,11 @@
 
 const fs = require("fs");
 const path = require("path");
-const { rules } = require("./rules.js");
+const { rules: all } = require("./rules.js");
 const corpus = require("./corpus.js");
+
+// The rules of the engines that the page tells of.
+const rules = all.filter((rule) => rule.section !== undefined);
 
 const PAGE = path.join(__dirname, "..", "docs", "BROWSERS.md");
 const LINK = /\[`([a-z0-9-]+)`\]\(\.\.\/browsers\/corpus\/([a-z0-9/-]+)\.json\)/g;

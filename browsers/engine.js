@@ -6,9 +6,12 @@
 const path = require("path");
 const { spawnSync } = require("child_process");
 const { readPlay } = require("../view/play.js");
-const { commandsOf, NOTHING } = require("./scenario.js");
+const { commandsOf, placeIn, NOTHING } = require("./scenario.js");
 
 const PROGRAM = process.env.FETCHPLAY || path.join(__dirname, "..", "bin", "fetchplay");
+
+// How often several documents are played until they come one after another.
+const TRIES = 400;
 
 // The statuses with which the program refuses its input (docs/rules/command-line.md), and has said so.
 const REFUSALS = [2, 6];
@@ -80,10 +83,11 @@ function commandOf(events) {
     behindLast: violationsOf(events.slice(last + 1)), result: resultOf(of("result")[0]) };
 }
 
-// The fetches and loads of the one document, each with the place of its command in the script.
-function readCommands(text, document) {
+// The fetches and loads of a document, the first one where no number is given, each with the place of its command in the
+// script.
+function readCommands(text, document, number = 0) {
   const starts = [];
-  readPlay(text).documents[0].events.forEach((event) => {
+  readPlay(text).documents[number].events.forEach((event) => {
     if (event.kind === "fetch" || event.kind === "load") {
       starts.push([]);
     } else {
@@ -102,4 +106,34 @@ function readCommands(text, document) {
   return commands;
 }
 
-module.exports = { printedPlay, readCommands, Refused };
+// The commands of all documents; `at` says which number a document has in the text.
+function commandsIn(text, scenario, at = (number) => number) {
+  return scenario.documents.flatMap((document, number) => readCommands(text, document, at(number))
+    .map((command) => ({ ...command, place: placeIn(scenario, number, command.place) })));
+}
+
+// Whether the calls of each document stand behind those of the documents before it.
+const isInOrder = (numbers) => numbers.every((number, index) => index === 0 || numbers[index - 1] <= number);
+
+// A play in which each document ends before the next begins, as a browser plays them. The engine plays them side by side,
+// and which comes first is left to the machine: so they are played in both orders until they come one after another.
+function commandsInOrder(bytes, scenario) {
+  const last = scenario.documents.length - 1;
+  const turned = Buffer.from(JSON.stringify({ ...scenario, documents: [...scenario.documents].reverse() }));
+  for (let tries = 0; tries < TRIES; tries += 1) {
+    for (const [played, at] of [[bytes, (number) => number], [turned, (number) => last - number]]) {
+      const text = printedPlay(played);
+      if (isInOrder(readPlay(text).history.map((entry) => at(entry.document)))) {
+        return commandsIn(text, scenario, at);
+      }
+    }
+  }
+  throw new Error("the engine did not play the documents one after another in " + 2 * TRIES + " plays");
+}
+
+// The engine's commands of a scenario, whose bytes are these.
+function playedCommands(bytes, scenario) {
+  return scenario.documents.length === 1 ? commandsIn(printedPlay(bytes), scenario) : commandsInOrder(bytes, scenario);
+}
+
+module.exports = { printedPlay, playedCommands, commandsIn, readCommands, Refused };

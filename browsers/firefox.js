@@ -13,8 +13,8 @@ const { watch, begin, outcome, call, scriptTag } = require("./page.js");
 const { prefsFor } = require("./firefox-prefs.js");
 
 const NAMES = process.env.FIREFOX ? [process.env.FIREFOX] : ["firefox-esr", "firefox"];
-const PATIENCE = 90000; // milliseconds
-const START = 60000; // milliseconds until Marionette must listen, and greet
+const PATIENCE = 600000; // milliseconds
+const START = 600000; // milliseconds until Marionette must listen, and greet
 const SETTLE = 60; // milliseconds until the last events of a command are there
 
 function versionOf(name) {
@@ -93,6 +93,7 @@ class Firefox {
     this.version = program.version;
     this.servers = servers;
     this.authority = authority;
+    this.settle = SETTLE;
     this.folder = fs.mkdtempSync(path.join(os.tmpdir(), "in-browser-"));
     writeProfile(this.folder, servers.port);
     const words = ["--headless", "--no-remote", "--marionette", "--remote-allow-system-access", "--profile", this.folder];
@@ -208,9 +209,13 @@ class Firefox {
     this.started = this.started || this.start();
     await this.started;
     this.containers += 1;
+    return this.tab(100 + this.containers);
+  }
+
+  async tab(container) {
     const before = await this.ask("WebDriver:GetWindowHandles");
-    await this.inBrowser(openTab, 100 + this.containers);
-    const session = new Session(this, 100 + this.containers);
+    await this.inBrowser(openTab, container);
+    const session = new Session(this, container);
     await session.take(before);
     return session;
   }
@@ -261,11 +266,21 @@ class Session {
     for (let until = Date.now() + PATIENCE; Date.now() < until;) {
       const handle = (await this.browser.ask("WebDriver:GetWindowHandles")).find((one) => !before.includes(one));
       if (handle !== undefined) {
-        await this.browser.ask("WebDriver:SwitchToWindow", { handle, focus: true });
+        this.handle = handle;
+        await this.show(handle);
         return;
       }
     }
     throw new Error("firefox opens no tab");
+  }
+
+  async show(handle) {
+    await this.browser.ask("WebDriver:SwitchToWindow", { handle, focus: true });
+  }
+
+  // Another tab of the same container.
+  beside() {
+    return this.browser.tab(this.container);
   }
 
   async setCookie(origin, name, value) {
@@ -315,16 +330,17 @@ class Session {
     if (command.load !== undefined && command.load.kind === "manifest") {
       await this.browser.inBrowser(obtainManifest);
     }
-    const seen = JSON.parse(await this.browser.value(call(outcome, SETTLE)));
+    const seen = JSON.parse(await this.browser.value(call(outcome, this.browser.settle)));
     const { ended, said } = await this.browser.inBrowser(heardSince);
     const reasons = said.filter((text) => REASONS.test(text)).map((text) => text.slice(0, 200));
     return { ...seen, reasons, finished: isFinished(ended, reasons) };
   }
 
   async close() {
+    await this.show(this.handle).catch(() => null);
     await this.browser.ask("WebDriver:CloseWindow").catch(() => null);
     const [handle] = await this.browser.ask("WebDriver:GetWindowHandles");
-    await this.browser.ask("WebDriver:SwitchToWindow", { handle, focus: true });
+    await this.show(handle);
   }
 }
 

@@ -6,7 +6,7 @@
 const engineNames = require("../schema/names.json");
 const { comparePlays, compared } = require("./compare.js");
 const { explainedAt } = require("./explained.js");
-const { policiesOf } = require("./scenario.js");
+const { documentAt, policiesOf } = require("./scenario.js");
 
 const STRANGER = "https://planted.test";
 
@@ -110,10 +110,10 @@ function changedForms(command, document) {
 // farther from the browser's plants none: the browser differs there by itself.
 function foundAt(scenario, played, plain, at) {
   const { place, engine, browser, differences } = plain[at];
-  const farther = changedForms(engine, scenario.documents[0])
+  const farther = changedForms(engine, documentAt(scenario, place))
     .map((changed) => compared(scenario, played.browser, place, changed, browser))
     .filter((changed) => changed.differences.length > differences.length);
-  const isFound = (changed) => explainedAt(scenario, played.browser, withAt(plain, at, changed), at).differences
+  const isFound = (changed) => explainedAt(scenario, played.browser, withAt(plain, at, changed), at, played.version).differences
     .some((difference) => difference.rule === null);
   return { planted: farther.length, found: farther.filter(isFound).length };
 }
@@ -127,4 +127,4 @@ function foundPlanted(scenario, commands, played) {
     { planted: 0, found: 0 });
 }
 
-module.exports = { foundPlanted };
+module.exports = { foundPlanted, changedForms };

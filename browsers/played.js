@@ -5,11 +5,12 @@
 
 const { Authority } = require("./certificate.js");
 const { Servers } = require("./servers.js");
-const { policiesOf, spokenHeaders, commandsOf, filledCommand, NOTHING } = require("./scenario.js");
+const { placeIn, policiesOf, spokenHeaders, commandsOf, filledCommand, lastOf, NOTHING } = require("./scenario.js");
 const chromium = require("./chromium.js");
 const firefox = require("./firefox.js");
 
 const BROWSERS = { chromium, firefox };
+const PATIENT = 20; // times as long
 
 // ---- what the page told, in the engine's words
 
@@ -64,22 +65,11 @@ function resultOf(command, seen, arrivals) {
 
 // A page's header values have a byte in each character, a scenario's are UTF-8.
 const asBytes = (text) => Buffer.from(text, "utf8").toString("latin1");
-const asText = (bytes) => Buffer.from(bytes, "latin1").toString("utf8");
 
 function withByteValues(command) {
   const { headers } = command.fetch || {};
   return headers === undefined ? command
     : { fetch: { ...command.fetch, headers: headers.map(([name, value]) => [name, asBytes(value)]) } };
-}
-
-// The last result as conditions and templates see it.
-function lastOf(result) {
-  if (result.result === "response") {
-    return { type: result.type || "cors", status: result.status, url: result.url,
-      headers: result.headers.map(([name, value]) => [name, asText(value)]),
-      body: result.body.end === "whole" ? Buffer.from(result.body.hex, "hex").toString("utf8") : null };
-  }
-  return { ...NOTHING, type: result.result };
 }
 
 // ---- the play
@@ -107,7 +97,7 @@ async function playCommand(session, servers, policies, command, number) {
   const first = servers.arrivals.length;
   const seen = await session.perform(withByteValues(command), number);
   const arrivals = servers.arrivals.slice(first).filter((arrival) => arrival.own === null);
-  const requests = arrivals.map(({ origin, method, target, headers, body }) => ({ origin, method, target, body,
+  const requests = arrivals.map(({ origin, method, target, headers, body, at }) => ({ origin, method, target, body, at,
       headers: headers.map((header) => [header.name, header.value]) }));
   return { requests, violations: violationsOf(seen.violations, policies), result: resultOf(command, seen, arrivals),
     reasons: seen.reasons };
@@ -130,10 +120,12 @@ async function playScript(session, servers, document) {
   return commands;
 }
 
-// A browser that plays scenarios, each in a profile of its own.
+// A browser that plays scenarios, each in a profile of its own. A patient one waits longer for the last events of a
+// command.
 class Player {
-  constructor(program) {
+  constructor(program, isPatient = false) {
     this.program = program;
+    this.isPatient = isPatient;
     this.authority = new Authority();
     this.servers = new Servers(this.authority);
   }
@@ -141,6 +133,7 @@ class Player {
   async start() {
     await this.servers.listen();
     this.browser = BROWSERS[this.program.browser].start(this.program, this.servers, this.authority);
+    this.browser.settle *= this.isPatient ? PATIENT : 1;
     this.stop = () => {
       this.browser.kill();
       this.browser.forget();
@@ -148,21 +141,33 @@ class Player {
     process.once("exit", this.stop);
   }
 
-  // Plays in the browser's own profile, or in one apart, so that many can be played one after another.
+  // Plays in the browser's own profile, or in one apart, so that many can be played one after another. Several documents
+  // are tabs: each is opened when the script of the one before has ended, and stays open.
   async play(scenario, apart = false) {
-    const document = scenario.documents[0];
     this.servers.become(scenario);
-    const session = await this.browser.session(apart);
+    const sessions = [await this.browser.session(apart)];
     try {
-      await seed(session, scenario);
-      const page = this.servers.expect(document.url, spokenHeaders(document));
+      await seed(sessions[0], scenario);
       this.servers.arrivals = [];
-      await session.open(page);
-      const commands = await playScript(session, this.servers, document);
+      const commands = [];
+      for (const [number, document] of scenario.documents.entries()) {
+        if (number > 0) {
+          sessions.push(await sessions[0].beside());
+        }
+        const played = await this.playDocument(sessions[number], document);
+        commands.push(...played.map((one) => ({ ...one, place: placeIn(scenario, number, one.place) })));
+      }
       return { browser: this.program.browser, version: this.program.version, commands };
     } finally {
-      await session.close();
+      for (const session of sessions.reverse()) {
+        await session.close();
+      }
     }
+  }
+
+  async playDocument(session, document) {
+    await session.open(this.servers.expect(document.url, spokenHeaders(document)));
+    return playScript(session, this.servers, document);
   }
 
   async close() {
@@ -173,8 +178,8 @@ class Player {
 }
 
 // The play in a browser that is started for it; `kept` is given what the servers received.
-async function playIn(program, scenario, kept = () => {}) {
-  const player = new Player(program);
+async function playIn(program, scenario, { kept = () => {}, isPatient = false } = {}) {
+  const player = new Player(program, isPatient);
   try {
     await player.start();
     return await player.play(scenario);
@@ -229,4 +234,18 @@ function find(browser) {
   return BROWSERS[browser].find();
 }
 
-module.exports = { playIn, playMany, find };
+// Whether a browser that is there starts, and opens a page.
+async function starts(program) {
+  const player = new Player(program);
+  try {
+    await player.start();
+    await (await player.browser.session(false)).close();
+    return true;
+  } catch {
+    return false;
+  } finally {
+    await player.close();
+  }
+}
+
+module.exports = { Player, playIn, playMany, find, starts };

@@ -46,7 +46,7 @@ const TABLES = { chromium: CHROMIUM, firefox: FIREFOX };
 // The names of the engine's errors that one of these reasons stands for; null where none says.
 function errorsOf(browser, reasons) {
   const fits = ([form]) => reasons.some((reason) => new RegExp("^" + form + "( .*)?$", "s").test(reason));
-  const rows = TABLES[browser].filter(fits);
+  const rows = (TABLES[browser] || []).filter(fits);
   return rows.length === 0 ? null : rows.flatMap(([, names]) => names);
 }
 

@@ -4,6 +4,7 @@
 // a scenario at all is the engine's to say; it is asked first.
 
 const LONGEST_WAIT = 15; // seconds, of all waits together
+const MOST_DOCUMENTS = 3;
 
 class Unplayable extends Error {
   constructor(place, sentence) {
@@ -69,22 +70,27 @@ function checkServers(servers) {
   }));
 }
 
-function checkDocument(document) {
+// Documents are played one after another. In the engine each has a clock of its own, so only the last may wait.
+function checkDocument(document, place, isLast) {
   if (document.top !== undefined) {
-    refuse("/documents/0/top", "a document within another page is not played");
+    refuse(place + "/top", "a document within another page is not played");
   }
   const sandboxed = policiesOf(document).find((policy) => policy.enforced && /(^|;)\s*sandbox\b/i.test(policy.text));
   if (sandboxed !== undefined) {
-    refuse("/documents/0/headers", "the policy's sandbox gives the document another origin, which the engine has not");
+    refuse(place + "/headers", "the policy's sandbox gives the document another origin, which the engine has not");
   }
-  if (secondsOf(document.script, "/documents/0/script") > LONGEST_WAIT) {
-    refuse("/documents/0/script", "it waits longer than " + LONGEST_WAIT + " seconds, and waits are slept");
+  const seconds = secondsOf(document.script, place + "/script");
+  if (seconds > LONGEST_WAIT) {
+    refuse(place + "/script", "it waits longer than " + LONGEST_WAIT + " seconds, and waits are slept");
+  }
+  if (seconds > 0 && !isLast) {
+    refuse(place + "/script", "it waits, and the documents behind it have clocks of their own");
   }
 }
 
 // A document of http at a known host would itself be opened over https.
-function checkKnown(scenario) {
-  const { protocol, hostname } = new URL(scenario.documents[0].url);
+function checkKnown(scenario, document) {
+  const { protocol, hostname } = new URL(document.url);
   const known = (scenario.hsts || []).findIndex((one) => one.until > (scenario.now || 0)
     && (one.host === hostname || (one.subdomains && hostname.endsWith("." + one.host))));
   if (protocol === "http:" && known >= 0) {
@@ -92,15 +98,32 @@ function checkKnown(scenario) {
   }
 }
 
-function readScenario(text) {
+// The scenario in this text. What was observed by others may have what no browser can play here.
+function readScenario(text, isObserved = false) {
   const scenario = JSON.parse(text);
-  if (scenario.documents.length !== 1) {
-    refuse("/documents", "there must be one document, and there are " + scenario.documents.length);
+  const { documents } = scenario;
+  if (documents.length < 1 || documents.length > MOST_DOCUMENTS) {
+    refuse("/documents", "there must be one to " + MOST_DOCUMENTS + " documents, and there are " + documents.length);
   }
-  checkKnown(scenario);
-  checkDocument(scenario.documents[0]);
+  if (isObserved) {
+    return scenario;
+  }
+  documents.forEach((document, number) => {
+    checkKnown(scenario, document);
+    checkDocument(document, "/documents/" + number, number === documents.length - 1);
+  });
   checkServers(scenario.servers || []);
   return scenario;
+}
+
+// ---- the place of a command: `/0` in the script, and with several documents `1/0`, behind the number of its own
+
+function placeIn(scenario, number, place) {
+  return scenario.documents.length === 1 ? place : number + place;
+}
+
+function documentAt(scenario, place) {
+  return scenario.documents[Number(place.split("/")[0])];
 }
 
 const POLICY_HEADERS = { "content-security-policy": true, "content-security-policy-report-only": false };
@@ -125,6 +148,19 @@ function spokenHeaders(document) {
 // ---- the script
 
 const NOTHING = { type: "none", status: 0, url: "", headers: [], body: null };
+
+// A page's header values have a byte in each character, a scenario's are UTF-8.
+const asText = (bytes) => Buffer.from(bytes, "latin1").toString("utf8");
+
+// The last result as conditions and templates see it; what was not seen is empty.
+function lastOf(result) {
+  if (result.result === "response") {
+    const { type, status = 0, url = "", headers = [], body = { end: "none" } } = result;
+    return { type: type || "cors", status, url, headers: headers.map(([name, value]) => [name, asText(value)]),
+      body: body.end === "whole" ? Buffer.from(body.hex, "hex").toString("utf8") : null };
+  }
+  return { ...NOTHING, type: result.result };
+}
 
 function holds([word, wanted], last) {
   switch (word) {
@@ -178,4 +214,4 @@ function filledCommand(command, last) {
   return { fetch: { ...asked, url: filled(asked.url, last), headers, body: filled(asked.body, last) } };
 }
 
-module.exports = { readScenario, policiesOf, spokenHeaders, commandsOf, filledCommand, NOTHING, Unplayable };
+module.exports = { readScenario, placeIn, documentAt, policiesOf, spokenHeaders, commandsOf, filledCommand, lastOf, NOTHING, Unplayable };

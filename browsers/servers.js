@@ -218,7 +218,7 @@ class Servers {
 
   keep(origin, request, rule, own) {
     this.arrivals.push({ origin, method: request.method, target: request.target, headers: request.headers,
-      body: request.body.toString("hex"), own, uncached: rule !== null && isUncached(rule) });
+      body: request.body.toString("hex"), at: Math.round(performance.now()), own, uncached: rule !== null && isUncached(rule) });
   }
 
   expect(url, headers) {
@@ -233,4 +233,4 @@ class Servers {
   }
 }
 
-module.exports = { Servers };
+module.exports = { Servers, readRequest };

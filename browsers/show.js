@@ -3,10 +3,17 @@
 // The comparison as a person reads it: each command with both sides beside each other, and a summary whose last lines,
 // in red, are the differences that no rule explains.
 
+const { engines, versionNote } = require("./rules.js");
+
 const WIDTH = 58;
 const RED = "\u001b[31m";
 const PLAIN = "\u001b[0m";
-const NAMES = { chromium: "Chromium", firefox: "Firefox" };
+const NAMES = { chromium: "Chromium", firefox: "Firefox" }; // that can be started
+
+const nameOf = (browser) => (browser in engines ? engines[browser].name : browser);
+
+// Where docs/BROWSERS.md tells a rule; null of an engine that it does not tell of.
+const pageOf = (rule) => (rule.section === undefined ? null : "docs/BROWSERS.md#" + rule.section);
 
 function shortened(text, width) {
   return text.length <= width ? text : text.slice(0, width - 3) + "...";
@@ -29,13 +36,20 @@ function titleOf(place, command) {
 
 const requestText = (request) => request.method + " " + request.origin + request.target;
 
+function bodyText(body) {
+  if (body === undefined) {
+    return null;
+  }
+  return body.end === "whole" ? body.hex.length / 2 + " bytes" : "body " + body.end;
+}
+
 function resultText(result, reasons) {
   if (result === undefined) {
     return "not played";
   }
   if (result.result === "response") {
-    const body = result.body.end === "whole" ? result.body.hex.length / 2 + " bytes" : "body " + result.body.end;
-    return ["response", result.type, result.status, body].filter((word) => word !== null).join(" ");
+    const words = ["response", result.type, result.status, bodyText(result.body)];
+    return words.filter((word) => word !== null && word !== undefined).join(" ");
   }
   const named = result.name ? " " + result.number + " " + result.name + (result.header ? " " + result.header : "") : "";
   return result.result + named + (reasons && reasons.length > 0 ? ": " + shortened(reasons.join("; "), 120) : "");
@@ -86,6 +100,14 @@ function requestLines(compared) {
   return beside(lines.map((line) => line[0]), lines.map((line) => line[1]));
 }
 
+function ruleText(rule) {
+  if (rule === null) {
+    return "UNEXPLAINED";
+  }
+  const page = pageOf(rule);
+  return rule.name + ": " + rule.what + (page === null ? "" : " (" + page + ")");
+}
+
 function commandLines(compared) {
   const { engine, browser } = compared;
   const lines = [titleOf(compared.place, engine && engine.command), ...requestLines(compared),
@@ -93,8 +115,7 @@ function commandLines(compared) {
     row(resultText(engine && engine.result), resultText(browser && browser.result, browser && browser.reasons))];
   compared.differences.forEach((difference) => {
     lines.push("    " + differenceText(difference));
-    lines.push("      " + (difference.rule === null ? "UNEXPLAINED"
-      : difference.rule.name + ": " + difference.rule.says + " (docs/BROWSERS.md#" + difference.rule.section + ")"));
+    lines.push("      " + ruleText(difference.rule));
   });
   return lines;
 }
@@ -117,19 +138,24 @@ function summaryLines(commands, unexplained, coloured) {
   return lines;
 }
 
-function shown(played, commands, unexplained, coloured) {
-  const heading = row("the engine", NAMES[played.browser] + " " + played.version);
-  return [heading, ...commands.flatMap((compared) => ["", ...commandLines(compared)]),
-    ...summaryLines(commands, unexplained, coloured)].join("\n") + "\n";
+function changeLines(changes) {
+  return changes === null ? [] : ["", countOf(changes.length, "change"), ...changes];
+}
+
+function shown(played, commands, unexplained, changes, coloured) {
+  const heading = row("the engine", nameOf(played.browser) + " " + played.version);
+  const note = versionNote(played);
+  return [heading, ...(note === null ? [] : [row("", note)]), ...commands.flatMap((compared) => ["", ...commandLines(compared)]),
+    ...summaryLines(commands, unexplained, coloured), ...changeLines(changes)].join("\n") + "\n";
 }
 
 // For scripts: the same as JSON, each difference with the name and the section of its rule, or null.
-function asJson(played, commands, unexplained) {
+function asJson(played, commands, unexplained, changes) {
   const told = ({ rule, ...difference }) => ({ ...difference,
-    rule: rule === null ? null : { name: rule.name, section: "docs/BROWSERS.md#" + rule.section } });
+    rule: rule === null ? null : { name: rule.name, section: pageOf(rule) } });
   return JSON.stringify({ browser: played.browser, version: played.version, unexplained: unexplained.length,
-    commands: commands.map(({ place, engine, browser, differences }) => ({ place, engine, browser,
+    ...(changes === null ? {} : { changes }), commands: commands.map(({ place, engine, browser, differences }) => ({ place, engine, browser,
       differences: differences.map(told) })) }, null, 1) + "\n";
 }
 
-module.exports = { shown, asJson, differenceText, NAMES };
+module.exports = { commandLines, ruleText, shown, asJson, differenceText, nameOf, NAMES };

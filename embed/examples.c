@@ -5,7 +5,7 @@
 static fiorrudda_handle headers, policies, client, request, fetch, book, found;
 static uint8_t room[512];
 static size_t len, used;
-static uint32_t code, fault, header, reply, status, error, act, subdomains, policy, enforced;
+static uint32_t code, fault, header, status, error, act, subdomains, policy, enforced;
 static uint64_t age, now = 1800000000;
 
 // The caller's own of a whole fetch: what connects and sends, and what receives.
@@ -131,7 +131,7 @@ static void books(void) {
         fiorrudda_note_host(&book, T("api.example"), T("max-age=600; includeSubDomains"), now);
     if (fiorrudda_known_host(&book, T("eu.api.example"), now + 599) == FIORRUDDA_OK) puts("https is asked");
     if (fiorrudda_book_text(&book, room, sizeof room, &len) == FIORRUDDA_OK) fwrite(room, 1, len, stdout);
-    uint64_t line; // of a file, next time
+    uint64_t line; // of a file, next time: the format of this library is `fiorrudda book 1`
     if (fiorrudda_book_of_text(&book, T("fiorrudda book 2\n"), &line, &error) == FIORRUDDA_NO)
         printf("line %u, reason %u\n", (unsigned)line, (unsigned)error); // line 1, FIORRUDDA_REASON_OTHER_FORMAT
     // end
@@ -143,13 +143,11 @@ static void whole(void) {
     fiorrudda_request(&request, T("GET"), T("https://api.example/"));
     // example fetch
     code = fiorrudda_fetch(&fetch, &client, &request, now, 1048576, &fault, &header);
-    while (!code && !fiorrudda_act(&fetch, &act) && act != FIORRUDDA_ACT_OVER)
-        switch (act) {
-        case FIORRUDDA_ACT_ASK: code = fiorrudda_ask(&fetch, &book, &reply); break;
+    while (!code && !(code = fiorrudda_judge(&fetch, &book, &found, &act)) && act != FIORRUDDA_ACT_OVER)
+        switch (act) { // `found` has the violations since the last
         case FIORRUDDA_ACT_SEND: // over a connection to the server of FIORRUDDA_TEXT_ORIGIN
             code = fiorrudda_input(&fetch, sent(&fetch) ? FIORRUDDA_INPUT_SENT : FIORRUDDA_INPUT_FAILED); break;
-        case FIORRUDDA_ACT_TELL: code = fiorrudda_input(&fetch, FIORRUDDA_INPUT_TOLD); break;
-        default: code = received(&fetch);
+        case FIORRUDDA_ACT_READ_HEAD: case FIORRUDDA_ACT_READ_BODY: code = received(&fetch);
         }
     if (!code && !fiorrudda_text(&fetch, FIORRUDDA_TEXT_BODY, 0, room, sizeof room, &len)) fwrite(room, 1, len, stdout);
     // end

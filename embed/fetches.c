@@ -1,5 +1,5 @@
 // Whole fetches: each call with an empty handle, with one of another kind, with a number that stands for nothing and with
-// what is not awaited; and what a fetch comes to whose connection fails or whose answer is cut.
+// what is not awaited; what a fetch comes to whose connection fails or whose answer is cut; and how far it comes by itself.
 #include "holds.h"
 
 static fiorrudda_handle client, request, fetch, book, other;
@@ -53,6 +53,8 @@ static void wrong_handles(fiorrudda_handle *it) {
     IS(WRONG_HANDLE, fiorrudda_feed(it, T("HTTP/1.1 200\r\n\r\n"), &used));
     IS(WRONG_HANDLE, fiorrudda_ask(it, &book, &reply));
     IS(WRONG_HANDLE, fiorrudda_ask(&fetch, it, &reply));
+    IS(WRONG_HANDLE, fiorrudda_judge(it, &book, &other, &number));
+    IS(WRONG_HANDLE, fiorrudda_judge(&fetch, it, &other, &number));
     IS(WRONG_HANDLE, fiorrudda_fetch(&other, it, &request, 0, 100, &fault, &header));
     IS(WRONG_HANDLE, fiorrudda_fetch(&other, &client, it, 0, 100, &fault, &header));
     HOLDS(number == 7 && (it->at != NULL) == (at != NULL) && other.at == NULL);
@@ -171,12 +173,126 @@ static void other_book(void) {
     HOLDS(act() == FIORRUDDA_ACT_SEND && says(FIORRUDDA_TEXT_ORIGIN, "https://a.example"));
 }
 
+// ---- how far a fetch comes without the network
+
+#define APP T("https://app.example/"), T("https://app.example/")
+
+static fiorrudda_handle found;
+
+static uint32_t judged(void) {
+    uint32_t it = 99;
+    IS(OK, fiorrudda_judge(&fetch, &book, &found, &it));
+    HOLDS(act() == it);
+    return it;
+}
+
+static void begin_judged(void) { IS(OK, fiorrudda_fetch(&fetch, &client, &request, 5, 100, &fault, &header)); }
+
+static bool violates(size_t at, uint32_t policy, bool enforced, const char *directive) {
+    uint32_t its, is;
+    if (fiorrudda_violation(&found, at, &its, &is) || its != policy || (is != 0) != enforced) return false;
+    IS(OK, fiorrudda_violation_directive(&found, at, room, sizeof room, &len));
+    return len == strlen(directive) && !memcmp(room, directive, len);
+}
+
+static size_t violations(void) {
+    size_t count = 0;
+    uint32_t policy, enforced;
+    while (fiorrudda_violation(&found, count, &policy, &enforced) == FIORRUDDA_OK) count++;
+    return count;
+}
+
+// A page upgrades its own images, where the policy alone forbids the URL as it is written.
+static void upgraded(void) {
+    IS(OK, fiorrudda_book(&book));
+    IS(OK, fiorrudda_client(&client, APP, 0));
+    IS(OK, fiorrudda_client_policy(&client, T("img-src 'self'; upgrade-insecure-requests"), true));
+    IS(OK, fiorrudda_load(&request, FIORRUDDA_LOAD_IMAGE, T("http://app.example/i")));
+    begin_judged();
+    HOLDS(judged() == FIORRUDDA_ACT_SEND && says(FIORRUDDA_TEXT_ORIGIN, "https://app.example"));
+    HOLDS(says(FIORRUDDA_TEXT_URL, "/i") && violations() == 0);
+    IS(OK, fiorrudda_load(&request, FIORRUDDA_LOAD_IMAGE, T("https://ads.example/i")));
+    begin_judged();
+    HOLDS(judged() == FIORRUDDA_ACT_OVER && number(FIORRUDDA_NUMBER_ERROR) == FIORRUDDA_ERROR_CSP_REQUEST);
+    HOLDS(violations() == 1 && violates(0, 0, true, "img-src"));
+    // What is over stays so, and nothing is told again.
+    HOLDS(judged() == FIORRUDDA_ACT_OVER && violations() == 0);
+}
+
+static void preflighted(void) {
+    IS(OK, fiorrudda_client(&client, APP, 0));
+    IS(OK, fiorrudda_client_policy(&client, T("connect-src 'self', default-src 'none'"), false));
+    IS(OK, fiorrudda_request(&request, T("PUT"), T("https://api.example/d")));
+    begin_judged();
+    HOLDS(judged() == FIORRUDDA_ACT_SEND && number(FIORRUDDA_NUMBER_PREFLIGHT) == 1 && says(FIORRUDDA_TEXT_METHOD, "OPTIONS"));
+    HOLDS(violations() == 2 && violates(0, 0, false, "connect-src") && violates(1, 1, false, "connect-src"));
+    IS(OK, fiorrudda_input(&fetch, FIORRUDDA_INPUT_SENT));
+    HOLDS(judged() == FIORRUDDA_ACT_READ_HEAD && violations() == 0);
+    IS(OK, fed("HTTP/1.1 204 X\r\nAccess-Control-Allow-Origin: *\r\nAccess-Control-Allow-Methods: PUT\r\n\r\n"));
+    HOLDS(judged() == FIORRUDDA_ACT_SEND && number(FIORRUDDA_NUMBER_PREFLIGHT) == 0 && says(FIORRUDDA_TEXT_METHOD, "PUT"));
+    // The book has learnt it.
+    begin_judged();
+    HOLDS(judged() == FIORRUDDA_ACT_SEND && number(FIORRUDDA_NUMBER_PREFLIGHT) == 0);
+}
+
+// An answer that redirects, and one that is kept from the page, whose host the book notes.
+static void answers_judged(void) {
+    IS(OK, fiorrudda_client(&client, APP, 0));
+    IS(OK, fiorrudda_request(&request, T("GET"), T("/a")));
+    begin_judged();
+    HOLDS(judged() == FIORRUDDA_ACT_SEND);
+    IS(OK, fiorrudda_input(&fetch, FIORRUDDA_INPUT_SENT));
+    IS(OK, fed("HTTP/1.1 302 X\r\nLocation: https://api.example/b\r\n\r\n"));
+    HOLDS(judged() == FIORRUDDA_ACT_SEND && says(FIORRUDDA_TEXT_ORIGIN, "https://api.example"));
+    HOLDS(says(FIORRUDDA_TEXT_URL, "/b"));
+    IS(OK, fiorrudda_input(&fetch, FIORRUDDA_INPUT_SENT));
+    IS(OK, fed("HTTP/1.1 200 X\r\nStrict-Transport-Security: max-age=9\r\nContent-Length: 2\r\n\r\nhi"));
+    HOLDS(judged() == FIORRUDDA_ACT_OVER && number(FIORRUDDA_NUMBER_ERROR) == FIORRUDDA_ERROR_CORS_CHECK);
+    IS(OK, fiorrudda_known_host(&book, T("api.example"), 13));
+}
+
+// It goes on from wherever it stands. What `violations` held is freed, whatever it was.
+static void midway(void) {
+    IS(OK, fiorrudda_client(&client, T("http://api.example/"), T("http://api.example/"), 0));
+    IS(OK, fiorrudda_client_policy(&client, T("connect-src 'none'"), false));
+    IS(OK, fiorrudda_request(&request, T("GET"), T("/c")));
+    begin_judged();
+    HOLDS(act() == FIORRUDDA_ACT_TELL);
+    IS(OK, fiorrudda_input(&fetch, FIORRUDDA_INPUT_TOLD));
+    HOLDS(act() == FIORRUDDA_ACT_ASK);
+    IS(OK, fiorrudda_headers(&found));
+    HOLDS(judged() == FIORRUDDA_ACT_SEND && says(FIORRUDDA_TEXT_ORIGIN, "https://api.example") && violations() == 0);
+    IS(WRONG_HANDLE, fiorrudda_append(&found, T("A"), T("1")));
+    fiorrudda_free(&found);
+}
+
+// A call that tells of more than 65,536 violations ends there, and the next goes on.
+static void goes_on_for_long(void) {
+    enum { EACH = 1024, MOST = 65536 };
+    static char value[EACH * sizeof "img-src x,"];
+    size_t end = 0;
+    for (int at = 0; at < EACH; at++) end += (size_t)sprintf(value + end, "img-src x,");
+    IS(OK, fiorrudda_client(&client, APP, 0));
+    for (int at = 0; at < MOST / EACH; at++) IS(OK, fiorrudda_client_policy(&client, (uint8_t *)value, end, false));
+    IS(OK, fiorrudda_client_policy(&client, T("img-src x"), true));
+    IS(OK, fiorrudda_load(&request, FIORRUDDA_LOAD_IMAGE, T("/i")));
+    begin_judged();
+    HOLDS(judged() == FIORRUDDA_ACT_TELL && violations() == MOST);
+    HOLDS(judged() == FIORRUDDA_ACT_OVER && violations() == 1 && violates(0, MOST, true, "img-src"));
+    fiorrudda_free(&found);
+}
+
 int main(void) {
     misuse();
     not_awaited();
     failures();
     faults();
     other_book();
+    upgraded();
+    preflighted();
+    answers_judged();
+    midway();
+    goes_on_for_long();
     fiorrudda_free(&client);
     fiorrudda_free(&request);
     fiorrudda_free(&fetch);

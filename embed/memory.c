@@ -86,6 +86,20 @@ static uint32_t played(const uint8_t *scenario, size_t size, uint32_t wanted) {
 #define PLAYED "{\"format\":1," HOSTS "," SERVERS ",\"documents\":[" DOCUMENT "]}"
 #define REFUSED "{\"format\":1," SERVERS ",\"documents\":[{\"url\":\"/\"}]}"
 
+// The line of an audit, likewise.
+static uint32_t audit(void) {
+    static const uint8_t said[] = "not a play: History 0\n";
+    len = 77;
+    memset(room, 0xEE, sizeof said);
+    uint32_t code = fiorrudda_audit(T(PLAYED), T("?"), room, sizeof room, &len);
+    if (code == FIORRUDDA_NO) {
+        HOLDS(len == sizeof said - 1 && !memcmp(room, said, len));
+        return FIORRUDDA_OK;
+    }
+    HOLDS(len == 77 && room[0] == 0xEE);
+    return code;
+}
+
 static uint32_t play(void) { return played(T(PLAYED), FIORRUDDA_OK); }
 static uint32_t play_none(void) { return played(T("{\"format\":1,\"documents\":[]}"), FIORRUDDA_OK); }
 static uint32_t play_refused(void) { return played(T(REFUSED), FIORRUDDA_NO); }
@@ -185,15 +199,91 @@ static uint32_t whole(void) {
     }
 }
 
+// Judges the fetch. Where memory is refused it is freed, `found` holds the violations that it held, and no act is told.
+static uint32_t judged(size_t left, uint32_t wanted) {
+    uint32_t act = 77, policy, enforced;
+    void *was = found.at;
+    allowed = left;
+    uint32_t code = fiorrudda_judge(&fetch, &book, &found, &act);
+    allowed = SIZE_MAX;
+    if (code == FIORRUDDA_OK) {
+        HOLDS(act == wanted);
+        return code;
+    }
+    HOLDS(act == 77 && found.at == was && fiorrudda_violation(&found, 0, &policy, &enforced) == FIORRUDDA_OK && enforced == 1);
+    HOLDS(fetch.at == NULL && fiorrudda_act(&fetch, &act) == FIORRUDDA_WRONG_HANDLE);
+    return code;
+}
+
+// A violation that `found` holds before.
+static void find(void) {
+    HOLDS(fiorrudda_client(&client, T("https://a.example/"), T("https://a.example/"), 0) == FIORRUDDA_OK);
+    HOLDS(fiorrudda_load(&request, FIORRUDDA_LOAD_IMAGE, T("https://b.example/i")) == FIORRUDDA_OK);
+    fiorrudda_handle list = {0};
+    HOLDS(fiorrudda_headers(&list) == FIORRUDDA_OK);
+    HOLDS(fiorrudda_append(&list, T("Content-Security-Policy"), T("img-src 'none'")) == FIORRUDDA_OK);
+    HOLDS(fiorrudda_policies(&policies, &list) == FIORRUDDA_OK);
+    fiorrudda_free(&list);
+    HOLDS(fiorrudda_check(&found, &policies, &client, &request, T(""), FIORRUDDA_CHECK_ENFORCED) == FIORRUDDA_NO);
+}
+
+// A PUT to a host that is known, past two report-only violations and the preflight cache.
+static void begin(void) {
+    uint32_t fault, header;
+    find();
+    HOLDS(fiorrudda_client(&client, T("http://a-host-of-a-long-name.example/"), T("http://a.example/"), 0) == FIORRUDDA_OK);
+    HOLDS(fiorrudda_client_policy(&client, T("connect-src 'none', default-src 'none'"), false) == FIORRUDDA_OK);
+    HOLDS(fiorrudda_request(&request, T("PUT"), T("http://known.example/a-path-of-more-than-thirty-bytes")) == FIORRUDDA_OK);
+    HOLDS(fiorrudda_request_header(&request, T("X-A"), T("a value of more than thirty bytes")) == FIORRUDDA_OK);
+    HOLDS(fiorrudda_fetch(&fetch, &client, &request, 1, 1000, &fault, &header) == FIORRUDDA_OK);
+}
+
+static uint32_t judge_request(void) {
+    size_t left = allowed;
+    allowed = SIZE_MAX;
+    begin();
+    return judged(left, FIORRUDDA_ACT_SEND);
+}
+
+static void answer(const uint8_t *head, size_t size) {
+    size_t used;
+    HOLDS(fiorrudda_input(&fetch, FIORRUDDA_INPUT_SENT) == FIORRUDDA_OK);
+    HOLDS(fiorrudda_feed(&fetch, head, size, &used) == FIORRUDDA_OK && used == size);
+}
+
+// What a preflight allows, which the book learns.
+static uint32_t judge_preflight(void) {
+    size_t left = allowed;
+    allowed = SIZE_MAX;
+    begin();
+    HOLDS(judged(SIZE_MAX, FIORRUDDA_ACT_SEND) == FIORRUDDA_OK);
+    answer(T("HTTP/1.1 204 X\r\nAccess-Control-Allow-Origin: *\r\nAccess-Control-Allow-Methods: PUT\r\n"
+        "Access-Control-Allow-Headers: x-a\r\n\r\n"));
+    find();
+    return judged(left, FIORRUDDA_ACT_SEND);
+}
+
+// An answer whose host the book notes, and that redirects to a server which is asked first.
+static uint32_t judge_answer(void) {
+    size_t left = allowed;
+    allowed = SIZE_MAX;
+    HOLDS(judge_preflight() == FIORRUDDA_OK);
+    answer(T("HTTP/1.1 307 X\r\nAccess-Control-Allow-Origin: *\r\nStrict-Transport-Security: max-age=9\r\n"
+        "Location: https://another-host-of-a-long-name.example/d\r\n\r\n"));
+    find();
+    return judged(left, FIORRUDDA_ACT_SEND);
+}
+
 static const struct { const char *name; uint32_t (*call)(void); } calls[] = {
     {"load", make_load}, {"headers", make_headers}, {"book", make_book}, {"append", append}, {"get", get},
     {"resource_policy", resource_policy}, {"origin", origin}, {"same_origin", same_origin},
     {"same_site", same_site}, {"trustworthy", trustworthy}, {"bad_port", bad_port},
     {"referrer", referrer}, {"integrity", integrity}, {"sts", sts}, {"note_host", note_host},
     {"known_host", known_host}, {"essence", essence}, {"source_matches", source_matches}, {"whole", whole},
+    {"judge_request", judge_request}, {"judge_preflight", judge_preflight}, {"judge_answer", judge_answer},
     {"on_request", on_request}, {"unsafe_name", unsafe_name}, {"exposed_name", exposed_name},
     {"forbidden_header", forbidden_header}, {"book_text", book_text}, {"book_of_text", book_of_text},
-    {"play", play}, {"play_none", play_none}, {"play_refused", play_refused},
+    {"play", play}, {"play_none", play_none}, {"play_refused", play_refused}, {"audit", audit},
 };
 
 // What the header list and the book hold is as it was: told by calls that the refused ones are not.

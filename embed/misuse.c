@@ -89,6 +89,8 @@ CALL(to_send, to_send(it, room, sizeof room, &len))
 CALL(input, input(it, FIORRUDDA_INPUT_SENT))
 CALL(feed, feed(it, T("HTTP/1.1 200\r\n\r\n"), &used))
 CALL(ask_fetch, ask(it, &held[BOOK], &a))
+CALL(judge_fetch, judge(it, &held[BOOK], &made, &a))
+CALL(judge_book, judge(&held[FETCH], it, &made, &a))
 CALL(upgrades, upgrades(it))
 CALL(check_policies, check(&made, it, &held[CLIENT], &held[REQUEST], T(""), 0))
 CALL(violation, violation(it, 0, &a, &b))
@@ -100,7 +102,7 @@ static const struct { int kind; const char *name; uint32_t (*call)(fiorrudda_han
     ROW(LIST, append), ROW(LIST, get), ROW(LIST, name_at), ROW(LIST, value_at), ROW(LIST, cors_check), ROW(LIST, resource_policy),
     ROW(LIST, nosniff), ROW(LIST, essence), ROW(LIST, unsafe_name), ROW(LIST, exposed_name), ROW(LIST, policies),
     ROW(LIST, filtered_list), ROW(LIST, verdict_list), ROW(LIST, refused_list), ROW(LIST, type_list), ROW(LIST, nosniff_list),
-    ROW(BOOK, note_host), ROW(BOOK, known_host), ROW(BOOK, book_text), ROW(BOOK, ask_book),
+    ROW(BOOK, note_host), ROW(BOOK, known_host), ROW(BOOK, book_text), ROW(BOOK, ask_book), ROW(BOOK, judge_book),
     ROW(CLIENT, client_policy), ROW(CLIENT, client_cookie), ROW(CLIENT, fetch_client), ROW(CLIENT, upgraded_client),
     ROW(CLIENT, blocked_client), ROW(CLIENT, check_client), ROW(CLIENT, preflight_client), ROW(CLIENT, verdict_client),
     ROW(CLIENT, refused_client), ROW(CLIENT, filtered_client),
@@ -109,7 +111,7 @@ static const struct { int kind; const char *name; uint32_t (*call)(fiorrudda_han
     ROW(REQUEST, verdict_request), ROW(REQUEST, refused_request), ROW(REQUEST, filtered_request), ROW(REQUEST, type_request),
     ROW(REQUEST, nosniff_request),
     ROW(FETCH, act), ROW(FETCH, text), ROW(FETCH, number), ROW(FETCH, to_send), ROW(FETCH, input), ROW(FETCH, feed),
-    ROW(FETCH, ask_fetch),
+    ROW(FETCH, ask_fetch), ROW(FETCH, judge_fetch),
     ROW(POLICIES, upgrades), ROW(POLICIES, check_policies),
     ROW(VIOLATIONS, violation), ROW(VIOLATIONS, directive), ROW(VIOLATIONS, violation_url),
 };
@@ -257,6 +259,7 @@ static void bytes(void) {
     HOLDS(line == 1 && a == FIORRUDDA_REASON_NO_BOOK);
     IS(NO, fiorrudda_play(T("\xff"), room, sizeof room, &len));
     HOLDS(len == 4 && !memcmp(room, "json", 4));
+    IS(NO, fiorrudda_audit(T("\xff"), T("\xff"), room, sizeof room, &len));
     IS(OK, fiorrudda_request(&held[REQUEST], T("PUT"), T("/\xff")));
     faults(FIORRUDDA_FAULT_BAD_URL);
     IS(OK, fiorrudda_load(&held[REQUEST], FIORRUDDA_LOAD_IMAGE, BAD));

@@ -3,4 +3,4 @@
     "", "image", "audio", "video", "style", "script", "font", "manifest"
 #define FAULT_NAMES \
     "", "BadUrl", "UrlCredentials", "BadMethod", "ForbiddenMethod", "BodyWithGet", "NoCorsMethod", "BadHeader", \
-    "NavigateMode", "TooLong"
+    "NavigateMode", "TooLong", "LongUrl"

@@ -1,5 +1,5 @@
-// Whole plays of scenarios, from C: what is played, what is refused and where, and room that is too little. Ends with
-// the line of the first case that is not as it should be.
+// Whole plays of scenarios, from C: what is played, what is refused and where, what an audit says, and room that is too
+// little. Ends with the line of the first case that is not as it should be.
 //
 //     plays FILE
 //
@@ -111,6 +111,28 @@ static void narrow(const uint8_t *scenario, size_t size, uint32_t wanted, const 
     HOLDS(len == needed);
 }
 
+#define AUDITED(code, scenario, play, line) \
+    do { \
+        unwritten(); \
+        IS(code, fiorrudda_audit(T(scenario), T(play), room, sizeof room, &len)); \
+        SAYS(line); \
+    } while (0)
+
+static void audits(void) {
+    AUDITED(OK, SCENARIO, PLAY, "play\n");
+    AUDITED(NO, "{}", PLAY, "not a play: Scenario /format\n");
+    AUDITED(NO, SCENARIO, "", "not a play: History 0\n");
+    AUDITED(NO, SCENARIO, "fetchplay 1\n" EVENTS("0") "history\n?\ndone\n", "not a play: History 1\n");
+    AUDITED(NO, SCENARIO, "fetchplay 2\n" EVENTS("0") "history\ndone\n", "not a play: Text 10\n");
+    AUDITED(NO, SHARED, PLAY, "not a play: Calls 0\n");
+    // In too little room nothing is written, and the length is told.
+    for (size_t room_len = 0; room_len < 5; room_len++) {
+        unwritten();
+        IS(TOO_SHORT, fiorrudda_audit(T(SCENARIO), T(PLAY), room, room_len, &len));
+        HOLDS(len == 5 && room[0] == 0xEE);
+    }
+}
+
 static int file(const char *name) {
     size_t size = 0, got = 1, room_len = 1 << 20;
     uint8_t *scenario = NULL, *text = malloc(room_len);
@@ -140,6 +162,7 @@ int main(int count, char **words) {
     played();
     shared();
     refusals();
+    audits();
     narrow(T(SCENARIO), FIORRUDDA_OK, PLAY);
     narrow(T("{\"format\": 1, \"documents\": [{\"url\": \"/\"}]}"), FIORRUDDA_NO, "/documents/0/url");
     narrow(T("{"), FIORRUDDA_NO, "json");

@@ -22,7 +22,7 @@ static unsigned turn;
 
 typedef struct worker {
     unsigned number;
-    fiorrudda_handle client, request, fetch;
+    fiorrudda_handle client, request, fetch, found;
 } worker;
 
 // Lets go of the lock, and lets another thread have it.
@@ -71,6 +71,15 @@ static const char *answer(fiorrudda_handle *fetch, uint64_t now) {
     return "HTTP/1.1 204 X\r\n" ALLOWED "Strict-Transport-Security: max-age=2; includeSubDomains\r\n\r\n";
 }
 
+// Judges the request of a fetch, which asks the shared book and changes nothing of it, so it stands in no history.
+static bool judged(worker *it) {
+    uint32_t act = FIORRUDDA_ACT_GONE;
+    pthread_mutex_lock(&lock);
+    uint32_t code = fiorrudda_judge(&it->fetch, &book, &it->found, &act);
+    unlocked();
+    return !code && act == FIORRUDDA_ACT_SEND;
+}
+
 // Does the acts of a fetch until it is over.
 static bool acted(worker *it, uint64_t now) {
     uint32_t act = FIORRUDDA_ACT_GONE, code = 0;
@@ -99,6 +108,7 @@ static bool fetched(worker *it, uint64_t now) {
     if (fiorrudda_client(&it->client, at, strlen(page), at, strlen(page), FIORRUDDA_REFERRER_DEFAULT)) return false;
     if (fiorrudda_request(&it->request, (const uint8_t *)(put ? "PUT" : "GET"), 3, (const uint8_t *)url, strlen(url))) return false;
     if (put && fiorrudda_request_header(&it->request, T("X-A"), T("1"))) return false;
+    if (fiorrudda_fetch(&it->fetch, &it->client, &it->request, now, 100, &fault, &header) || !judged(it)) return false;
     if (fiorrudda_fetch(&it->fetch, &it->client, &it->request, now, 100, &fault, &header)) return false;
     return acted(it, now / PLAYS);
 }
@@ -122,6 +132,7 @@ static void *work(void *at) {
     fiorrudda_free(&it->client);
     fiorrudda_free(&it->request);
     fiorrudda_free(&it->fetch);
+    fiorrudda_free(&it->found);
     return (void *)failed;
 }
 

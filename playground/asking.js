@@ -1,12 +1,15 @@
 "use strict";
 
-// Asks the server for plays, one at a time: a play that another text has overtaken is given up.
+// Wants plays, one at a time: a play that another text has overtaken is given up. `player.play(text, signal)` gives
+// what came: the `text` of a play, the `place` where the scenario is refused, or a `failure`.
+// `told(text, play, signal)` gives a play with what is said of it.
 
 const longestAsked = typeof module === "undefined" ? LONGEST_SCENARIO : require("./link.js").LONGEST_SCENARIO;
 
 class Asking {
-  constructor({ token, answered }) {
-    this.token = token;
+  constructor({ player, told, answered }) {
+    this.player = player;
+    this.told = told;
     this.answered = answered;
     this.wanted = null;
     this.isAsking = false;
@@ -30,20 +33,15 @@ class Asking {
     this.isAsking = false;
   }
 
-  // What the server says: the `text` of a play, the `place` where the scenario is refused, or a `failure`.
   async ask(text) {
     this.given = new AbortController();
-    const body = new Blob([text]);
-    if (body.size > longestAsked) {
+    const { signal } = this.given;
+    if (new Blob([text]).size > longestAsked) {
       return { failure: "a scenario has no more than " + longestAsked + " bytes" };
     }
-    try {
-      const response = await fetch("/play", { method: "POST", body, signal: this.given.signal,
-        headers: { "X-Playground-Token": this.token } });
-      return response.ok ? await response.json() : { failure: (await response.text()).trim() };
-    } catch (error) {
-      return { failure: "the playground does not answer; is bin/playground still running?" };
-    }
+    const answer = await this.player.play(text, signal);
+    return answer.text === undefined || signal.aborted ? answer
+      : { ...answer, text: await this.told(text, answer.text, signal) };
   }
 }
 

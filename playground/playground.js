@@ -21,8 +21,9 @@ function localProblems(text) {
 
 // ---- what the program has said
 
-// The refused place first, and then what is wrong elsewhere; where both are of one place the schema has the sentence. An
-// object is refused for a key that does not belong there, before any of its keys is looked at: that key is marked then.
+// The refused place first, and then what is wrong elsewhere; where both are of one place the schema has the sentence.
+// An object is refused for a key that does not belong there, before any of its keys is looked at: that key is marked
+// then.
 function problemsWith(text, place) {
   const local = localProblems(text);
   const { root } = readJson(text);
@@ -42,7 +43,7 @@ function tellState(text, isStale) {
 function showAnswer(text, answer) {
   if (answer.text !== undefined) {
     editor.setProblems([]);
-    drawPlay(answer.text, given.docs);
+    drawPlay(answer.text, "#docs/");
     tellState("Played.", false);
   } else if (answer.place !== undefined) {
     const [refused] = editor.setProblems(problemsWith(text, answer.place));
@@ -53,11 +54,13 @@ function showAnswer(text, answer) {
   }
 }
 
-const asking = new Asking({ token: given.token, answered: (text, answer) => {
-  if (text === editor.text()) {
-    showAnswer(text, answer);
-  }
-} });
+const advice = new Advice({ questions: allQuestions, isServed: given.isServed });
+const asking = new Asking({ player: new WorkerPlayer(given), told: (...asked) => advice.told(...asked),
+  answered: (text, answer) => {
+    if (text === editor.text()) {
+      showAnswer(text, answer);
+    }
+  } });
 
 // Another text, of a question or a link: nothing of it is folded.
 function showText(text) {
@@ -80,7 +83,7 @@ async function keepLink(text) {
 function showQuestion(question) {
   byId("question").value = question === undefined ? "" : question.name;
   byId("answer").hidden = question === undefined;
-  byId("answer").href = question === undefined ? "" : "/gallery/" + question.name + "/README.md";
+  byId("answer").href = question === undefined ? "" : "#gallery/" + question.name + "/README.md";
 }
 
 const editor = new Editor({ schemas, problemsOf: localProblems, changed: () => {

@@ -56,6 +56,7 @@ const FAULT_TEXTS = {
   BadHeader: ["The name or the value of this header cannot be sent.", "rules/requests.md#faults"],
   NavigateMode: ["Scripts may not use the mode navigate.", "rules/requests.md#faults"],
   TooLong: ["The method and the headers, or the body, are longer than the limit.", "rules/requests.md#faults"],
+  LongUrl: ["The text of the URL is longer than the limit.", "rules/requests.md#faults"],
 };
 
 const named = typeof module === "undefined" ? engineNames : require("./names.js");

@@ -21,7 +21,7 @@ const engineNames = {
     "TooManyRedirects": 17, "RedirectCredentials": 18, "CspResponse": 19, "Mime": 20, "NoSniff": 21, "Integrity": 22,
     "Coding": 23, "LinkFault": 24, "BadHead": 25, "HeadTooBig": 26},
   request_faults: {"BadUrl": 1, "UrlCredentials": 2, "BadMethod": 3, "ForbiddenMethod": 4, "BodyWithGet": 5,
-    "NoCorsMethod": 6, "BadHeader": 7, "NavigateMode": 8, "TooLong": 9},
+    "NoCorsMethod": 6, "BadHeader": 7, "NavigateMode": 8, "TooLong": 9, "LongUrl": 10},
   statuses: {"Ok": 0, "Usage": 1, "Refused": 2, "ReadFault": 3, "WriteFault": 4, "OutOfMemory": 5, "InputTooLong": 6,
     "OwnFault": 7},
 };

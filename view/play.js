@@ -231,8 +231,8 @@ function readError(lines, line, words) {
 function readFault(lines, line, words) {
   const refusal = checkRefusal(known.requestFaults, words, "BadHeader", line);
   const of = words[1] === "type-error" ? "fetch" : "load";
-  if (of === "load" && refusal.number !== 1) {
-    throw new PlayError(line, "a load has no other fault than 1 BadUrl");
+  if (of === "load" && !["BadUrl", "LongUrl"].includes(refusal.name)) {
+    throw new PlayError(line, "a load has no other fault than 1 BadUrl and 10 LongUrl");
   }
   const index = words[4] === undefined ? null : Number(words[4]);
   return { kind: "result", result: "fault", of, ...refusal, index, line };

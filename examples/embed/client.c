@@ -182,31 +182,29 @@ static uint32_t read_on(wire *w, fiorrudda_handle *fetch, piece *p) {
     return code;
 }
 
-static int run(wire *w, fiorrudda_handle *fetch, fiorrudda_handle *book) {
+static int run(wire *w, fiorrudda_handle *fetch, fiorrudda_handle *book, fiorrudda_handle *violations) {
     piece p = {.from = 0};
-    uint32_t act = FIORRUDDA_ACT_GONE, before, reply, code;
+    uint32_t act = FIORRUDDA_ACT_GONE, before, code = FIORRUDDA_OK;
     do {
         before = act;
-        if (fiorrudda_act(fetch, &act)) return WRONG;
+        if (fiorrudda_judge(fetch, book, violations, &act)) return WRONG;
         p.due = p.due || act != before;
         switch (act) {
         case FIORRUDDA_ACT_OVER: return told(fetch);
-        case FIORRUDDA_ACT_ASK: code = fiorrudda_ask(fetch, book, &reply); break;
         case FIORRUDDA_ACT_SEND:
             code = fiorrudda_input(fetch, asked(w, fetch) ? FIORRUDDA_INPUT_SENT : FIORRUDDA_INPUT_FAILED);
             p.from = p.to = 0;
             break;
         case FIORRUDDA_ACT_READ_HEAD:
         case FIORRUDDA_ACT_READ_BODY: code = read_on(w, fetch, &p); break;
-        case FIORRUDDA_ACT_TELL: code = fiorrudda_input(fetch, FIORRUDDA_INPUT_TOLD); break;
-        default: return WRONG;
+        case FIORRUDDA_ACT_GONE: return WRONG;
         }
     } while (!code);
     return WRONG;
 }
 
 static int fetched(wire *w, const char *url, const char *page) {
-    fiorrudda_handle client = {0}, request = {0}, fetch = {0}, book = {0};
+    fiorrudda_handle client = {0}, request = {0}, fetch = {0}, book = {0}, violations = {0};
     uint32_t fault, header;
     const uint8_t *from = (const uint8_t *)page;
     int status = WRONG;
@@ -215,11 +213,12 @@ static int fetched(wire *w, const char *url, const char *page) {
         fiorrudda_fetch(&fetch, &client, &request, (uint64_t)time(NULL), LIMIT, &fault, &header))
         puts("client: no such fetch can be made");
     else
-        status = run(w, &fetch, &book);
+        status = run(w, &fetch, &book, &violations);
     fiorrudda_free(&client);
     fiorrudda_free(&request);
     fiorrudda_free(&fetch);
     fiorrudda_free(&book);
+    fiorrudda_free(&violations);
     return status;
 }
 

@@ -6,24 +6,26 @@
     Policies(["script-src 'self'"]).violations(page, script)        # what the policy says to it
     preflight(page, Request("https://api.example/", "PUT"))         # the bytes that ask the server first
 
-A list of headers is a `Headers`, or pairs of a name and a value. `NoRequest` where no request can be made of what is
+A list of headers is a `Headers`, a mapping, or pairs of a name and a value. `NoRequest` where no request can be made of what is
 asked for: `Fetch` says why.
 """
 import ctypes
 from typing import Any, Callable, Iterable, List, NamedTuple, Optional, Tuple, Union
 
-from . import Headers, Text, _Handle, _lent, _lib, _number_of, _told, _written
+from .engine import (
+    FiorruddaError, Headers, Listed, Text, _Handle, _includes, _lent, _lib, _number_of, _Thing, _told, _written,
+)
 from .names import NETWORK_ERRORS
-from .whole import Client, Load, Policies, Request
+from .whole import _ASK, _TELL, Client, Load, Policies, Request
 
 __all__ = [
     "Seen", "Verdict", "Violation", "essence", "exposed_names", "is_forbidden_header", "is_mixed_blocked",
     "is_mixed_upgraded", "is_nosniff_blocked", "is_type_blocked", "keeps_from", "passes_cors_check", "preflight",
-    "preflight_verdict", "says_nosniff", "seen", "unsafe_names", "upgrades", "violations",
+    "preflight_verdict", "says_nosniff", "seen", "unsafe_names", "upgrades", "violations", "violations_many",
 ]
 
 Asked = Union[Request, Load]
-Listed = Union[Headers, Iterable[Tuple[Text, Text]]]
+_URL_ROOM = 8192  # bytes that hold the URL of most violations
 _CHECKS = ["enforced", "report-only", "response"]
 _TAINTINGS = ["basic", "cors", "opaque"]
 _ERRORS = {number: name for name, number in NETWORK_ERRORS.items()}
@@ -73,11 +75,11 @@ def _each(call: Callable[..., Any], *given: Any) -> Tuple[bytes, ...]:
     return tuple(found)
 
 
-def passes_cors_check(origin: Text, headers: Listed, credentials: bool = False) -> bool:
-    """ "CORS check" (Fetch, section 4.10) of an answer's list, for a serialised origin; `credentials` where the mode is
-    include."""
+def passes_cors_check(origin: Text, headers: Listed, credentials: Union[bool, str] = False) -> bool:
+    """ "CORS check" (Fetch, section 4.10) of an answer's list, for a serialised origin; `credentials` is the mode, or
+    whether that is include."""
     answer = _list(headers)
-    return _told(_lib.fiorrudda_cors_check(*_lent(origin), credentials, answer._handle))
+    return _told(_lib.fiorrudda_cors_check(*_lent(origin), _includes(credentials), answer._handle))
 
 
 def keeps_from(page: Text, url: Text, headers: Listed) -> bool:
@@ -106,10 +108,11 @@ def unsafe_names(headers: Listed) -> Tuple[str, ...]:
     return tuple(name.decode("latin-1") for name in _each(_lib.fiorrudda_unsafe_name, asked._handle))
 
 
-def exposed_names(headers: Listed, credentials: bool = False) -> Tuple[str, ...]:
-    """The names that an answer's list exposes; `credentials` where the mode is include (Fetch, section 2.2.6)."""
+def exposed_names(headers: Listed, credentials: Union[bool, str] = False) -> Tuple[str, ...]:
+    """The names that an answer's list exposes; `credentials` is the mode, or whether that is include (Fetch, section
+    2.2.6)."""
     answer = _list(headers)
-    found = _each(_lib.fiorrudda_exposed_name, answer._handle, credentials)
+    found = _each(_lib.fiorrudda_exposed_name, answer._handle, _includes(credentials))
     return tuple(name.decode("latin-1") for name in found)
 
 
@@ -137,23 +140,66 @@ def violations(policies: Policies, client: Client, request: Asked, of: str = "en
                redirect: Text = "") -> List[Violation]:
     """The violations of the `enforced` or the `report-only` policies by a request, or of all by its `response`, redirected
     to a URL if one is given (CSP 3, section 4.1)."""
-    found = _Handle()
-    given = policies.compiled()._handle, client._handle, request._handle, *_lent(redirect), _number_of(of, _CHECKS, "check")
-    try:
-        _told(_lib.fiorrudda_check(found, *given))
-        return _violations(found)
-    finally:
-        _lib.fiorrudda_free(found)
+    return _Checking(of).violations(policies, client, request, redirect)
 
 
-def _violations(found: _Handle) -> List[Violation]:
-    told: List[Violation] = []
-    policy, enforced = ctypes.c_uint32(0), ctypes.c_uint32(0)
-    while _told(_lib.fiorrudda_violation(found, len(told), policy, enforced)):
-        directive = _written(_lib.fiorrudda_violation_directive, found, len(told)) or b""
-        url = _written(_lib.fiorrudda_violation_url, found, len(told)) or b""
-        told.append(Violation(policy.value, bool(enforced.value), directive.decode(), url.decode("latin-1")))
-    return told
+def violations_many(triples: Iterable[Tuple[Policies, Client, Asked]],
+                    of: str = "enforced") -> List[Union[List[Violation], FiorruddaError]]:
+    """`violations` of each of many triples of policies, a client and a request, in order. Where one has no answer, the error
+    stands in its place, which counts as true, as violations do."""
+    checking = _Checking(of)
+    return [checking.answer(*triple) for triple in triples]
+
+
+class _Found(_Thing):
+    """The violations that a call finds, and the room that they are read into."""
+
+    def __init__(self) -> None:
+        self._room, self._length = ctypes.create_string_buffer(_URL_ROOM), ctypes.c_size_t(0)
+        self._policy, self._enforced, self._act = ctypes.c_uint32(0), ctypes.c_uint32(0), ctypes.c_uint32(0)
+        super().__init__(lambda handle: 0)
+
+    def listed(self) -> List[Violation]:
+        told: List[Violation] = []
+        while _told(_lib.fiorrudda_violation(self._handle, len(told), self._policy, self._enforced)):
+            directive = self._text(_lib.fiorrudda_violation_directive, len(told)).decode()
+            url = self._text(_lib.fiorrudda_violation_url, len(told)).decode("latin-1")
+            told.append(Violation(self._policy.value, bool(self._enforced.value), directive, url))
+        return told
+
+    def of_fetch(self, fetch: _Handle, book: _Handle) -> Tuple[int, List[Violation]]:
+        """Has a fetch go on as far as it comes without the network: its act then, and the violations on the way."""
+        told: List[Violation] = []
+        while True:
+            _told(_lib.fiorrudda_judge(fetch, book, self._handle, self._act))
+            told += self.listed()
+            if self._act.value not in (_ASK, _TELL):  # at which a call ends that went on for long
+                return self._act.value, told
+
+    def _text(self, call: Callable[..., int], at: int) -> bytes:
+        if call(self._handle, at, self._room, _URL_ROOM, self._length) == 0:
+            return ctypes.string_at(self._room, self._length.value)
+        return _written(call, self._handle, at) or b""
+
+
+class _Checking(_Found):
+    """Checks of one kind, one after another."""
+
+    def __init__(self, of: str) -> None:
+        self._kind = _number_of(of, _CHECKS, "check")
+        super().__init__()
+
+    def answer(self, policies: Policies, client: Client, request: Asked) -> Union[List[Violation], FiorruddaError]:
+        try:
+            return self.violations(policies, client, request)
+        except FiorruddaError as error:
+            return error
+
+    def violations(self, policies: Policies, client: Client, request: Asked, redirect: Text = "") -> List[Violation]:
+        given = policies.compiled()._handle, client._handle, request._handle
+        if _told(_lib.fiorrudda_check(self._handle, *given, *_lent(redirect), self._kind)):
+            return []
+        return self.listed()
 
 
 def preflight(client: Client, request: Asked) -> Optional[bytes]:

@@ -1,7 +1,7 @@
 """Acts and outcomes as the lines that `fetchplay play` prints of them (docs/rules/printed-text.md)."""
 from typing import Callable, Dict, Iterable, List, Optional, Union
 
-from . import NoRequest
+from .engine import NoRequest
 from .whole import Call, Loaded, NetworkError, Outcome, Pairs, Send, Tell
 
 

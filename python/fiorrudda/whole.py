@@ -3,24 +3,25 @@
     book = Book()
     client, request = Client("https://app.example/"), Request("https://api.example/", credentials="include")
     fetch = Fetch(client, request, now=int(time.time()))
+    violations = fetch.judge(book)
     for act in fetch:
-        if isinstance(act, Ask):
-            fetch.ask(book)
-        elif isinstance(act, Send):
+        if isinstance(act, Send):
             connection = connect(act.origin)
             connection.sendall(act.request)
             fetch.sent()
-        elif isinstance(act, (ReadHead, ReadBody)):
+        else:
             ... fetch.feed(bytes), and fetch.ended() where no more come
-        elif isinstance(act, Tell):
-            fetch.told()
+        violations += fetch.judge(book)
     print(fetch.outcome)
+
+Who leaves `judge` out answers the acts `Ask` and `Tell` too, by `Fetch.ask` and `Fetch.told`.
 """
 import ctypes
-from typing import TYPE_CHECKING, Callable, Dict, Iterable, Iterator, List, NamedTuple, Optional, Tuple, Union
+from typing import TYPE_CHECKING, Any, Callable, Dict, Iterable, Iterator, List, NamedTuple, Optional, Tuple, Type, Union
 
-from . import (
-    Book, Headers, NoRequest, ReferrerPolicy, Text, _Handle, _known, _lent, _lib, _number_of, _Thing, _time, _told, _written,
+from .engine import (
+    Book, Buffer, Headers, Listed, Made, NoRequest, ReferrerPolicy, Text, _bytes, _flag, _Handle, _kept, _known, _lent, _lib,
+    _number_of, _pairs, _Thing, _time, _told, _written,
 )
 from .names import CREDENTIALS, CROSSORIGINS, LOADS, MODES, REDIRECTS
 
@@ -143,14 +144,20 @@ class Policies:
             if isinstance(given, (str, bytes)):
                 raise TypeError("policies are a list of header values, not one text")
         self.values: List[Tuple[Text, bool]] = [(value, True) for value in enforced] + [(value, False) for value in report_only]
-        self._compiled: Optional[Tuple[int, _Thing]] = None
+        self._compiled: Optional[Tuple[Tuple[Tuple[Text, bool], ...], _Thing]] = None
+
+    def __getstate__(self) -> Dict[str, Any]:
+        return {"values": [(_kept(value), enforced) for value, enforced in self.values], "_compiled": None}
+
+    def __repr__(self) -> str:
+        enforced, report_only = ([value for value, own in self.values if own is kind] for kind in (True, False))
+        return f"Policies({enforced!r}{f', {report_only!r}' if report_only else ''})"
 
     @classmethod
-    def of_headers(cls, headers: Union[Headers, Iterable[Tuple[Text, Text]]]) -> "Policies":
-        """Those among the pairs of an answer's header list, or in a `Headers`: the enforced ones first, in which order the
+    def of_headers(cls, headers: Listed) -> "Policies":
+        """Those among an answer's headers, in a `Headers`, a mapping or pairs: the enforced ones first, in which order the
         violations number them."""
-        pairs: Iterable[Tuple[Text, Text]] = headers.pairs() if isinstance(headers, Headers) else headers
-        named = [(name.decode("latin-1") if isinstance(name, bytes) else name, value) for name, value in pairs]
+        named = [(name if isinstance(name, str) else _bytes(name).decode("latin-1"), value) for name, value in _pairs(headers)]
         given = [(value, cls.NAMES[name.lower()]) for name, value in named if name.lower() in cls.NAMES]
         found = cls()
         found.values = sorted(given, key=lambda one: not one[1])
@@ -158,11 +165,11 @@ class Policies:
 
     def compiled(self) -> _Thing:
         """The policies, parsed and read once, the enforced ones first. `NotAHeader` where a value is none."""
-        if self._compiled is None or self._compiled[0] != len(self.values):
+        if self._compiled is None or self._compiled[0] != tuple(self.values):
             names = {enforced: name for name, enforced in self.NAMES.items()}
             given = Headers((names[enforced], value) for value, enforced in self.values)
             made = _Thing(lambda handle: _lib.fiorrudda_policies(handle, given._handle))
-            self._compiled = (len(self.values), made)
+            self._compiled = (tuple(self.values), made)
         return self._compiled[1]
 
     def violations(self, client: "Client", request: "Union[Request, Load]", of: str = "enforced",
@@ -174,54 +181,99 @@ class Policies:
 
 class Client(_Thing):
     """A document that fetches: its URL, that of the page at the top, its referrer policy, its policies (`Policies`, or the
-    values of headers that are enforced), and pairs of a URL's origin and the value of the Cookie header."""
+    values of headers that are enforced), and of URLs' origins the value of the Cookie header, as pairs or a mapping."""
 
     def __init__(self, url: Text, top: Optional[Text] = None, policy: ReferrerPolicy = ReferrerPolicy.DEFAULT,
-                 policies: Union[Policies, Iterable[Text]] = (), cookies: Iterable[Tuple[Text, Text]] = ()) -> None:
+                 policies: Union[Policies, Iterable[Text]] = (), cookies: Listed = ()) -> None:
         given = (*_lent(url), *_lent(url if top is None else top), ReferrerPolicy(policy))
         super().__init__(lambda handle: _lib.fiorrudda_client(handle, *given))
+        self._page = (_kept(url), None if top is None else _kept(top), ReferrerPolicy(policy))
+        self._policies, self._cookies = Policies(), []  # type: Policies, List[Tuple[Text, Text]]
         for value, enforced in (policies if isinstance(policies, Policies) else Policies(policies)).values:
             self.add_policy(value, enforced)
-        for origin, value in cookies:
+        for origin, value in _pairs(cookies):
             self.add_cookie(origin, value)
+
+    def __reduce__(self) -> Made:
+        return Client, (*self._page, self._policies, list(self._cookies))
+
+    def __repr__(self) -> str:
+        """Without cookies, which a log need not have."""
+        url, top, policy = self._page
+        said = [repr(url)] + [f"top={top!r}"] * (top is not None) + [f"policy={policy!s}"] * bool(policy)
+        return f"Client({', '.join(said + [f'policies={self._policies!r}'] * bool(self._policies.values))})"
 
     def add_policy(self, value: Text, enforced: bool = True) -> None:
         """Adds the policies of a header's value (CSP 3, section 2.2), numbered on from those that were given before."""
-        _told(_lib.fiorrudda_client_policy(self._handle, *_lent(value), enforced))
+        _told(_lib.fiorrudda_client_policy(self._handle, *_lent(value), _flag(enforced, "enforced")))
+        self._policies.values.append((_kept(value), enforced))
 
     def add_cookie(self, url: Text, value: Text) -> None:
         """Adds the value of the Cookie header for the origin of a URL."""
         _told(_lib.fiorrudda_client_cookie(self._handle, *_lent(url), *_lent(value)))
+        self._cookies.append((_kept(url), _kept(value)))
+
+
+def _asked_again(kind: "Type[Union[Request, Load]]", words: Tuple[Any, Any], options: Dict[str, Any]) -> "Union[Request, Load]":
+    return kind(*words, **options)
 
 
 class _Asked(_Thing):
-    def _choose(self, choice: int, number: int) -> None:
-        _told(_lib.fiorrudda_request_choose(self._handle, choice, number))
+    """What is asked for. Where an option is that of the library at first, no call is made of it."""
 
-    def _write(self, which: int, text: Text) -> None:
+    _words: Tuple[Text, Text]
+    _options: Dict[str, Any]
+
+    def __reduce__(self) -> Made:
+        return _asked_again, (type(self), self._words, self._options)
+
+    def __repr__(self) -> str:
+        """Without headers and body, which a log need not have."""
+        shown = {name: value for name, value in self._options.items() if name not in ("headers", "body")}
+        return f"{type(self).__name__}({', '.join([*map(repr, self._words), *(f'{name}={shown[name]!r}' for name in shown)])})"
+
+    def _choose(self, choice: int, number: int, name: str, given: Any) -> None:
+        _told(_lib.fiorrudda_request_choose(self._handle, choice, number))
+        self._options[name] = given
+
+    def _write(self, which: int, text: Text, name: str) -> None:
         _told(_lib.fiorrudda_request_text(self._handle, which, *_lent(text)))
+        self._options[name] = _kept(text)
 
 
 class Request(_Asked):
     """What a script asks of `fetch` (Fetch, sections 5.4 and 5.6)."""
 
     def __init__(self, url: Text, method: Text = "GET", *, mode: str = "cors", credentials: str = "same-origin",
-                 redirect: str = "follow", headers: Iterable[Tuple[Text, Text]] = (), body: Optional[Text] = None,
+                 redirect: str = "follow", headers: Listed = (), body: Optional[Text] = None,
                  referrer: bool = True, referrer_policy: ReferrerPolicy = ReferrerPolicy.DEFAULT, integrity: Text = "",
                  upload: bool = False) -> None:
         given = (*_lent(method), *_lent(url))
         super().__init__(lambda handle: _lib.fiorrudda_request(handle, *given))
-        self._choose(_MODE, _number_of(mode, _MODES, "mode"))
-        self._choose(_CREDENTIAL, _number_of(credentials, _CREDENTIALS, "credentials mode"))
-        self._choose(_REDIRECT, _number_of(redirect, _REDIRECTS, "redirect mode"))
-        self._choose(_REFERRER, int(referrer))
-        self._choose(_REFERRER_POLICY, ReferrerPolicy(referrer_policy))
-        self._choose(_UPLOAD, int(upload))
-        for name, value in headers:
-            _told(_lib.fiorrudda_request_header(self._handle, *_lent(name), *_lent(value)))
+        self._words, self._options = (_kept(url), _kept(method)), {}
+        if mode != "cors":
+            self._choose(_MODE, _number_of(mode, _MODES, "mode"), "mode", mode)
+        if credentials != "same-origin":
+            self._choose(_CREDENTIAL, _number_of(credentials, _CREDENTIALS, "credentials mode"), "credentials", credentials)
+        if redirect != "follow":
+            self._choose(_REDIRECT, _number_of(redirect, _REDIRECTS, "redirect mode"), "redirect", redirect)
+        if not _flag(referrer, "referrer"):
+            self._choose(_REFERRER, 0, "referrer", False)
+        if referrer_policy != ReferrerPolicy.DEFAULT:
+            self._choose(_REFERRER_POLICY, ReferrerPolicy(referrer_policy), "referrer_policy", referrer_policy)
+        if _flag(upload, "upload"):
+            self._choose(_UPLOAD, 1, "upload", True)
+        if headers:
+            self._send_headers(_pairs(headers))
         if body is not None:
-            self._write(_BODY, body)
-        self._write(_INTEGRITY, integrity)
+            self._write(_BODY, body, "body")
+        if integrity:
+            self._write(_INTEGRITY, integrity, "integrity")
+
+    def _send_headers(self, pairs: List[Tuple[Text, Text]]) -> None:
+        for name, value in pairs:
+            _told(_lib.fiorrudda_request_header(self._handle, *_lent(name), *_lent(value)))
+        self._options["headers"] = [(_kept(name), _kept(value)) for name, value in pairs]
 
 
 class Load(_Asked):
@@ -232,11 +284,17 @@ class Load(_Asked):
                  referrer_policy: ReferrerPolicy = ReferrerPolicy.DEFAULT) -> None:
         number, given = _number_of(kind, _KINDS, "kind of a load") + 1, _lent(url)
         super().__init__(lambda handle: _lib.fiorrudda_load(handle, number, *given))
-        self._choose(_CROSSORIGIN, _number_of(crossorigin, _CROSSORIGINS, "crossorigin attribute"))
-        self._choose(_PARSER, int(parser))
-        self._choose(_REFERRER_POLICY, ReferrerPolicy(referrer_policy))
-        self._write(_NONCE, nonce)
-        self._write(_INTEGRITY, integrity)
+        self._words, self._options = (kind, _kept(url)), {}
+        if crossorigin is not None:
+            self._choose(_CROSSORIGIN, _number_of(crossorigin, _CROSSORIGINS, "crossorigin attribute"), "crossorigin", crossorigin)
+        if _flag(parser, "parser"):
+            self._choose(_PARSER, 1, "parser", True)
+        if referrer_policy != ReferrerPolicy.DEFAULT:
+            self._choose(_REFERRER_POLICY, ReferrerPolicy(referrer_policy), "referrer_policy", referrer_policy)
+        if nonce:
+            self._write(_NONCE, nonce, "nonce")
+        if integrity:
+            self._write(_INTEGRITY, integrity, "integrity")
 
 
 class Fetch(_Thing):
@@ -258,6 +316,10 @@ class Fetch(_Thing):
             return int(code)
 
         super().__init__(make)
+        self._asks = repr(request)
+
+    def __repr__(self) -> str:
+        return f"<Fetch of {self._asks}>"
 
     def __iter__(self) -> Iterator[Act]:
         return self
@@ -269,6 +331,13 @@ class Fetch(_Thing):
         made: Dict[int, Callable[[], Act]] = {_ASK: self._asked, _SEND: self._sends, _READ_HEAD: ReadHead,
                                               _READ_BODY: ReadBody, _TELL: self._tells}
         return made[act]()
+
+    def judge(self, book: Book) -> "List[Violation]":
+        """Goes on without the network: asks a book, and tells the document of violations, until something is to be sent or
+        read, or the fetch is over. It gives the violations on the way, report-only ones too. Threads that share the book
+        hold one common lock around each call of the book."""
+        from .checks import _Found
+        return _Found().of_fetch(self._handle, book._handle)[1]
 
     # ---- what came of an act
 
@@ -299,10 +368,12 @@ class Fetch(_Thing):
         """The connection failed."""
         self._input(_FAILED)
 
-    def feed(self, piece: bytes) -> int:
-        """The next bytes of the answer came: how many of them were read. Those behind a head are fed again."""
+    def feed(self, piece: Buffer) -> int:
+        """The next bytes of the answer came, in any buffer: how many of them were read. Those behind a head are fed again."""
+        if isinstance(piece, str):
+            raise TypeError("an answer comes in bytes, not in text")
         used = ctypes.c_size_t(0)
-        _told(_lib.fiorrudda_feed(self._handle, piece, len(piece), used))
+        _told(_lib.fiorrudda_feed(self._handle, *_lent(piece), used))
         return used.value
 
     # ---- what it came to

@@ -9,7 +9,7 @@ use Rattle.std.proofs.lemmas.Option.{same_Some, slice_get-get_or, slice_get_past
 use Rattle.std.specs.List.{slice_get}
 use Rattle.std.specs.Option.{is_some}
 use Rattle.std.specs.Prelude.{◌==◌, if◌then◌else◌, IsSome}
-use Rattle.link_traits.specs.Counts.{Rose}
+use Rattle.link_traits.specs.Counts.{one_more}
 use Rattle.link_traits.specs.Sinks.{Took, TookPart}
 use Rattle.audit_replay.specs.Differences.{AreCompared, DifferAt}
 use Rattle.audit_replay.specs.Private.Comparing.{AreSameFront, Compared, IsComparing, difference, difference_of}
@@ -178,7 +178,7 @@ differs-whole expected text old new answer made took is answered =
 pub differs-part : (expected text : List ℕ) (old new : Compared) (answer : Option ℕ)
     → old ≡ record { expected = expected; at = 0; found = None; faults = 0 }
     → TookPart (Some (told_of old)) (Some (told_of new)) text → IsComparing new.expected new.at new.found new.faults
-    → Rose old.faults new.faults → answer ≡ difference_of new → AreCompared text expected answer
+    → new.faults ≡ one_more old.faults → answer ≡ difference_of new → AreCompared text expected answer
 differs-part expected text old new answer made took is rose answered =
     let opens = taken-since expected (take took.0 text) old new made took.1 in
     let first : old.faults ≡ 0 = ap (λ (s : Compared). s.faults) made in

@@ -23,9 +23,9 @@ use Rattle.book_calls.specs.Ops.{InRange}
 use Rattle.book_hosts.specs.declared.sts.Sts.{Sts}
 use Rattle.book_preflights.specs.declared.question.Lesson.{Lesson}
 use Rattle.book_preflights.specs.declared.question.Question.{Question}
-use Rattle.script_events.specs.Calls.{call_text, credentials_text, list_text, method_text, reply_text}
-use Rattle.script_events.specs.Calls.{subdomains_text}
-use Rattle.script_events.specs.Lines.{line}
+use Rattle.script_lines.specs.Calls.{call_text, credentials_text, list_text, method_text, reply_text}
+use Rattle.script_lines.specs.Calls.{subdomains_text}
+use Rattle.script_lines.specs.Lines.{line}
 use Rattle.play_text.specs.Text.{entry_line}
 use Rattle.audit_text.specs.declared.calls.Call.{Call}
 use Rattle.audit_text.specs.declared.tail.Tail.{Tail}

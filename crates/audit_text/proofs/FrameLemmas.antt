@@ -5,7 +5,7 @@ use Rattle.std.proofs.lemmas.List.{take-append-drop}
 use Rattle.std.specs.Prelude.{decimal}
 use Rattle.value_decimal.specs.Decimals.{number_up_to}
 use Rattle.value_decimal.proofs.DecimalLemmas.{number-lacks, number-read, number-writes}
-use Rattle.script_events.specs.Lines.{line}
+use Rattle.script_lines.specs.Lines.{line}
 use Rattle.audit_text.specs.Frames.{IsFramed}
 use Rattle.audit_text.specs.Private.Cuts.{IsCut}
 use Rattle.audit_text.proofs.LineLemmas.{one-line}

@@ -6,5 +6,6 @@ pub mod OneLemmas
 pub mod OnceLemmas
 pub mod PlainLemmas
 pub mod PrintedLemmas
+pub mod ReadLemmas
 pub mod ShortLemmas
 pub mod WordLemmas

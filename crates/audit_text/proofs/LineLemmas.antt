@@ -13,7 +13,7 @@ use Rattle.std.proofs.lemmas.List.Sums.{passes_at_first, split_at_first, take_wh
 use Rattle.std.specs.Prelude.{◌==◌, not, IfOk, MatchBool}
 use Rattle.std.specs.List.{All, position, position_or_len, slice_get, take_while}
 use Rattle.book_calls.specs.declared.entry.Entry.{Entry}
-use Rattle.script_events.specs.Lines.{line}
+use Rattle.script_lines.specs.Lines.{line}
 use Rattle.audit_text.specs.Entries.{IsLineOf}
 use Rattle.play_text.specs.Plain.{IsLine}
 use Rattle.audit_text.specs.Histories.{AreLinesOf, FailsAfter, HasFault, HasLines, IsRead}

@@ -14,7 +14,7 @@ use Rattle.std.specs.List.{All, join_with_byte, list_all, slice_split}
 use Rattle.value_lemmas.proofs.Options.{if-from, if-not, if-parts}
 use Rattle.value_lemmas.proofs.Lists.{list_all-weaker}
 use Rattle.value_text.specs.Tokens.{is_tchar, is_token}
-use Rattle.script_events.specs.Calls.{comma_texts, list_text, method_text}
+use Rattle.script_lines.specs.Calls.{comma_texts, list_text, method_text}
 use Rattle.play_text.specs.Words.{is_method, is_visible, is_word}
 use Rattle.audit_text.specs.Private.Reading.{list_in, method_in, tokens_in}
 use Rattle.value_decimal.proofs.DecimalLemmas.{lacks}

@@ -4,7 +4,7 @@ use Rattle.std.proofs.Common.{subst, arith, Some}
 use Rattle.std.proofs.lemmas.Bool.{cases_order}
 use Rattle.std.specs.List.{slice_get}
 use Rattle.book_calls.specs.declared.entry.Entry.{Entry}
-use Rattle.play_text.specs.Laws.{HasOneHistory}
+use Rattle.audit_text.specs.OneHistory.{HasOneHistory}
 use Rattle.audit_text.specs.Entries.{IsLineOf}
 use Rattle.audit_text.specs.Histories.{AreLinesOf, FailsAfter, HasFault, Holds}
 use Rattle.audit_text.specs.Laws.{ReadsOnce}

@@ -11,8 +11,8 @@ use Rattle.book_calls.specs.declared.entry.Entry.{Entry}
 use Rattle.book_calls.specs.declared.op.Op.{Op}
 use Rattle.book_calls.specs.declared.op.Op.TheVariants.{Match, Note, Covers, Learn, Clear}
 use Rattle.book_calls.specs.Ops.{InRange}
-use Rattle.play_text.specs.Laws.{HasOneHistory, IsListed, IsNamed, IsReadable, IsReadableOp}
-use Rattle.script_events.specs.Lines.{line}
+use Rattle.audit_text.specs.OneHistory.{HasOneHistory, IsListed, IsNamed, IsReadable, IsReadableOp}
+use Rattle.script_lines.specs.Lines.{line}
 use Rattle.play_text.specs.Text.{history_text}
 use Rattle.play_text.specs.Words.{has_words, is_method, is_word}
 use Rattle.audit_text.specs.Entries.{IsEntry}

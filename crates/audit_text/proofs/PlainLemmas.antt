@@ -35,17 +35,17 @@ use Rattle.book_calls.specs.declared.op.Op.TheVariants.{Match, Note, Covers, Lea
 use Rattle.book_calls.specs.declared.op.Reply.{Reply}
 use Rattle.book_calls.specs.declared.op.Reply.TheVariants.{Yes, No, Done}
 use Rattle.book_hosts.specs.declared.sts.Sts.{Sts}
-use Rattle.script_events.specs.Calls.{call_text, comma_texts, credentials_text, list_text, lesson_text, method_text, op_text}
-use Rattle.script_events.specs.Calls.{question_text, reply_text, sts_text, subdomains_text, time_text}
+use Rattle.script_lines.specs.Calls.{call_text, comma_texts, credentials_text, list_text, lesson_text, method_text, op_text}
+use Rattle.script_lines.specs.Calls.{question_text, reply_text, sts_text, subdomains_text, time_text}
 use Rattle.script_events.specs.declared.events.Ending.{Ending}
 use Rattle.script_events.specs.declared.events.Ending.TheVariants as ending
 use Rattle.script_events.specs.declared.events.Event.{Event}
 use Rattle.script_events.specs.declared.events.Event.TheVariants as event
 use Rattle.script_events.specs.declared.events.Transcript.{Transcript}
-use Rattle.script_events.specs.Escapes.{escaped, escaped_byte, hex_escape, is_plain}
-use Rattle.script_events.specs.Lines.{body_line, body_text, disposition_name, error_text, escaped_line, event_text}
-use Rattle.script_events.specs.Lines.{fault_text, header_line, header_lines, hop_lines, line, named_header, named_index}
-use Rattle.script_events.specs.Lines.{outcome_lines, request_body_lines, request_line, response_lines, url_text}
+use Rattle.script_lines.specs.Escapes.{escaped, escaped_byte, hex_escape, is_plain}
+use Rattle.script_lines.specs.Lines.{body_line, body_text, disposition_name, error_text, escaped_line, event_text}
+use Rattle.script_lines.specs.Lines.{fault_text, header_line, header_lines, hop_lines, line, named_header, named_index}
+use Rattle.script_lines.specs.Lines.{outcome_lines, request_body_lines, request_line, response_lines, url_text}
 use Rattle.play_text.specs.Plain.{IsLine, IsPlainError, IsPlainEvent, IsPlainOutcome, IsPlainTranscript}
 use Rattle.play_text.specs.Text.{ending_line, transcript_text}
 use Rattle.play_text.specs.Words.{has_words, is_method, is_visible, is_word}

@@ -4,8 +4,8 @@ use Rattle.std.specs.Prelude.{decimal}
 use Rattle.std.specs.List.{All, AllByRecursion, flat_map}
 use Rattle.std.proofs.lemmas.List.Elements.{All-cons, All-nil, All-weaker}
 use Rattle.book_calls.specs.declared.entry.Entry.{Entry}
-use Rattle.script_events.specs.Calls.{call_text}
-use Rattle.script_events.specs.Lines.{line}
+use Rattle.script_lines.specs.Calls.{call_text}
+use Rattle.script_lines.specs.Lines.{line}
 use Rattle.play_text.specs.Plain.{IsLine}
 use Rattle.play_text.specs.Text.{history_text, transcript_text}
 use Rattle.audit_text.specs.Entries.{IsEntry}

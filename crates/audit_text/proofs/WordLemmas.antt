@@ -15,7 +15,7 @@ use Rattle.value_decimal.specs.Decimals.{number_up_to}
 use Rattle.value_decimal.proofs.DecimalLemmas.{lacks, number-lacks, number-read, number-writes}
 use Rattle.book_calls.specs.declared.op.Reply.{Reply}
 use Rattle.book_calls.specs.declared.op.Reply.TheVariants.{Yes, No, Done}
-use Rattle.script_events.specs.Calls.{credentials_text, reply_text, subdomains_text}
+use Rattle.script_lines.specs.Calls.{credentials_text, reply_text, subdomains_text}
 use Rattle.audit_text.specs.Private.Reading.{credentials_in, reply_in, subdomains_in, time_in}
 
 -- ---- times

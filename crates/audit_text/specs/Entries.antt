@@ -3,7 +3,7 @@ use Rattle.std.specs.Prelude.{◌≡◌, ◌<◌, ◌^◌, IsTrue, Option, Some,
 use Rattle.value_text.specs.Texts.{Text}
 use Rattle.book_calls.specs.declared.entry.Entry.{Entry}
 use Rattle.book_calls.specs.Ops.{InRange}
-use Rattle.script_events.specs.Lines.{line}
+use Rattle.script_lines.specs.Lines.{line}
 use Rattle.play_text.specs.Text.{entry_line}
 use Rattle.play_text.specs.Words.{has_words}
 

@@ -3,7 +3,7 @@ use Rattle.std.specs.Prelude.{◌≡◌, ◌≢◌, ℕ, zero, suc, List, [], �
 use Rattle.std.specs.List.{All, flat_map, slice_get}
 use Rattle.value_text.specs.Texts.{Text}
 use Rattle.book_calls.specs.declared.entry.Entry.{Entry}
-use Rattle.script_events.specs.Lines.{line}
+use Rattle.script_lines.specs.Lines.{line}
 use Rattle.play_text.specs.Plain.{IsLine}
 use Rattle.audit_text.specs.declared.history.Reading.{Reading}
 use Rattle.audit_text.specs.declared.history.Reading.TheVariants.{Entries, Fault}

@@ -1,7 +1,7 @@
 // The history in the printed text of a play, read back line by line.
 ghost use Rattle.std.specs.Prelude.{◌≡◌, ◌≢◌, ◌++◌, ℕ, List, IfOk, MatchBool, MatchOption};
 ghost use Rattle.value_text.specs.Texts.{Text};
-ghost use Rattle.script_events.specs.Lines.{line};
+ghost use Rattle.script_lines.specs.Lines.{line};
 ghost use Rattle.play_text.specs.Plain.{IsLine};
 ghost use Rattle.audit_text.specs.Histories.{IsRead, heading};
 ghost use Rattle.audit_text.specs.Private.Cuts as spec;

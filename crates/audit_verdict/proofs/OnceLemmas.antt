@@ -15,7 +15,7 @@ use Rattle.script_reading.specs.Scenarios.{scenario_of}
 use Rattle.script_scenarios.specs.declared.document.Document.{Document}
 use Rattle.script_scenarios.specs.declared.scenario.Scenario.{Scenario}
 use Rattle.script_runs.specs.Documents.{EachDocument}
-use Rattle.play_isolation.specs.Laws.{PlaysOnce}
+use Rattle.play_laws.specs.Once.{PlaysOnce}
 use Rattle.play_definitions.specs.Plays.{IsTranscript, by_rules, opening_book, way_to_servers, ways_to_servers}
 use Rattle.audit_replay.specs.Legality.{AreRight, IsIllegalAt, IsRight}
 use Rattle.audit_replay.specs.Differences.{DifferAt}

@@ -22,7 +22,7 @@ use Rattle.play_seats.specs.Sim.{SimState}
 use Rattle.play_definitions.specs.Playing.{RunCameTo}
 use Rattle.play_definitions.specs.Worlds.{outside}
 use Rattle.play_isolation.specs.Calls.{PartAtReply}
-use Rattle.play_isolation.specs.Laws.{CallsFollow}
+use Rattle.play_laws.specs.Once.{CallsFollow}
 use Rattle.play_definitions.specs.Plays.{RunsOver, by_rules, outside_on, way_to_servers}
 use Rattle.play_seats.proofs.ServedLemmas.{fresh_link, served-run, way_of_servers}
 use Rattle.play_seats.proofs.ServerLemmas.{by_bytes, sim_told}

@@ -3,7 +3,8 @@ ghost use Rattle.audit_verdict.specs.Laws as laws;
 
 use audit_text::{law_one_reading, law_printed};
 use link_traits::Link;
-use play_isolation::{law_isolated, law_one_play};
+use play_isolation::law_isolated;
+use play_laws::law_one_play;
 use play_seats::SimLink;
 use play_words::{law_few_calls, law_own_words};
 

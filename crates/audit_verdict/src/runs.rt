@@ -6,9 +6,10 @@ ghost use Rattle.audit_verdict.specs.Private.Runs as spec;
 
 use audit_replay::{TapePass, TapeShare};
 use book_calls::{Book, Entry};
-use play_documents::drive;
+use play_definitions::Driver;
+use play_documents::ByFetches;
 use play_fetch::OverLink;
-use play_isolation::law_same_calls;
+use play_laws::law_same_calls;
 use play_seats::SimLink;
 use script_events::{Ending, Transcript, Transcripts};
 use script_scenarios::Scenario;
@@ -42,8 +43,8 @@ fn run_one(
     let share = TapeShare::new(history);
     let mut pass = TapePass::new(alloc, number, history, opening);
     let mut link = SimLink::new(scenario);
-    let transcript = drive(
-        &OverLink,
+    let driver = ByFetches { fetcher: OverLink };
+    let transcript = driver.drive(
         alloc,
         scenario,
         number,

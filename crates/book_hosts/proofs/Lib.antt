@@ -1,5 +1,4 @@
 pub mod BlankLemmas
-pub mod Computed
 pub mod CuttingLemmas
 pub mod EqualsLemmas
 pub mod FieldLemmas

@@ -1,5 +1,4 @@
 pub mod CacheLaws
-pub mod Computed
 pub mod KeyLaws
 pub mod KeyLemmas
 pub mod ListLemmas

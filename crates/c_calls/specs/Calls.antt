@@ -1,9 +1,9 @@
 -- What each call that is given a handle tells, and what the handle holds after it.
-use Rattle.std.specs.Prelude.{ℕ, Bool, List, Option, Some, None, Result, Ok, Err}
+use Rattle.std.specs.Prelude.{◌&&◌, ℕ, Bool, not, List, Option, Some, None, Result, Ok, Err}
 use Rattle.c_handle.specs.declared.thing.Thing.TheVariants as thing
 use Rattle.c_calls.specs.Terms.{Book, Header, OK, Refusal, Text, TextBy, Thing, WRONG_HANDLE, after_field, appending}
 use Rattle.c_calls.specs.Terms.{code_by, code_of, combined, held_book, held_headers, is_kept_by_resource_policy}
-use Rattle.c_calls.specs.Terms.{is_known_host, passes_cors_check, says, told, yes_or_no}
+use Rattle.c_calls.specs.Terms.{is_known_host, is_wildcard, passes_cors_check, says, told, yes_or_no}
 
 -- what a call tells, and what the handle holds then
 pub record Done : Type 0 where
@@ -27,9 +27,11 @@ append_done list (Err refusal) = done (code_of refusal) (Some (thing.Headers lis
 abbrev pub append_to : Text → Text → Option Thing → Done
 append_to name value held = done_by (held_headers held) (λ list. append_done list (appending name value list)) held
 
--- "CORS check" of a header list
+-- "CORS check" of a header list; `*` is no origin, and passes none
 abbrev pub cors_check : Text → Bool → Option Thing → ℕ
-cors_check origin include held = code_by (held_headers held) (λ list. yes_or_no (passes_cors_check origin include list))
+cors_check origin include held =
+    code_by (held_headers held)
+    (λ list. yes_or_no (not (is_wildcard origin) && passes_cors_check origin include list))
 
 -- "cross-origin resource policy check" of a header list
 abbrev pub resource_policy : Text → Text → Option Thing → ℕ

@@ -44,3 +44,4 @@ pub use Rattle.value_requests.specs.declared.mode.ReferrerPolicy.{ReferrerPolicy
 pub use Rattle.value_requests.specs.declared.policy.Destination.{Destination}
 pub use Rattle.value_requests.specs.declared.response.Outcome.{Outcome}
 pub use Rattle.value_text.specs.Texts.{Text}
+pub use Rattle.value_text.specs.Wildcards.{is_wildcard}

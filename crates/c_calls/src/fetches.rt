@@ -112,7 +112,7 @@ pub extern "C" fn fiorrudda_fetch(
 }
 
 // What a fetch does next.
-fn act_of(session: &Session) -> u32
+pub(crate) fn act_of(session: &Session) -> u32
     ensures { result ≡ spec.act_number session.now }
 {
     match session.act() {

@@ -54,8 +54,9 @@ pub extern "C" fn fiorrudda_note_host(
 /// be asked by https. The host is the domain of a URL, in lower case. Threads that share the book hold one common lock
 /// around each call that takes it.
 ///
-/// `OK` where it is; `NO` and `NOT_A_HOST`, which alone leave an http URL as it is; `WRONG_HANDLE`; `TOO_LATE`;
-/// `OUT_OF_MEMORY`. `NOT_A_HOST` is told as by `fiorrudda_note_host`: also of a host with a capital letter.
+/// `OK` where it is; `NO`, which leaves an http URL as it is; `NOT_A_HOST`, which does so of a host as
+/// `fiorrudda_origin` writes it, and is told as by `fiorrudda_note_host`: also of a host with a capital letter;
+/// `WRONG_HANDLE`; `TOO_LATE`; `OUT_OF_MEMORY`.
 #[unsafe(no_mangle)]
 pub extern "C" fn fiorrudda_known_host(
     alloc: Global,

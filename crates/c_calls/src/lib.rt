@@ -11,6 +11,7 @@ mod free;
 mod headers;
 mod hosts;
 mod inputs;
+mod judging;
 mod origins;
 mod parts;
 mod policies;

@@ -12,11 +12,12 @@ use c_handle::{
 use c_rules::{is_kept_by_resource_policy, matches_integrity, told_referrer};
 use policy_checks::passes_cors_check;
 use std::alloc::Global;
+use value_text::is_wildcard;
 
 /// "CORS check" of an answer's header list, for the serialised origin of a request and whether its credentials mode is
 /// include (Fetch, section 4.10). The origin is compared byte for byte; `null` is that of a request that was tainted by
-/// redirects. It is for mode cors, where a URL of the request is of another origin than the page: a page reads what all
-/// came of its own origin without it, and never an answer to mode no-cors of another.
+/// redirects, and `*` is no origin. It is for mode cors, where a URL of the request is of another origin than the page:
+/// a page reads what all came of its own origin without it, and never an answer to mode no-cors of another.
 ///
 /// `OK` where the answer passes; `NO`; `WRONG_HANDLE`.
 #[unsafe(no_mangle)]
@@ -27,7 +28,7 @@ pub extern "C" fn fiorrudda_cors_check(origin: &[u8], include: bool, headers: &m
     let Some(list) = headers.headers() else {
         return WRONG_HANDLE;
     };
-    yes_or_no(passes_cors_check(origin, include, list))
+    yes_or_no(!is_wildcard(origin) && passes_cors_check(origin, include, list))
 }
 
 /// Whether the answer of a URL is kept from a page's requests in mode no-cors (Fetch, section 3.7, "cross-origin

@@ -10,8 +10,9 @@ pub const NO: u32 = 1;
 pub const WRONG_HANDLE: u32 = 2;
 
 /// Memory was refused. What handles hold is as it was, except that the fetch given to `fiorrudda_ask`,
-/// `fiorrudda_input` or `fiorrudda_feed` is lost, and that in `fiorrudda_ask` the book may have done the call: then
-/// `reply` is written. No other answer is written, except that `fiorrudda_feed` tells that no byte was taken.
+/// `fiorrudda_input`, `fiorrudda_feed` or `fiorrudda_judge` is lost, and that the book may have done what it was asked:
+/// in `fiorrudda_ask` the call, and then `reply` is written; in `fiorrudda_judge` some calls. No other answer is
+/// written, except that `fiorrudda_feed` tells that no byte was taken.
 pub const OUT_OF_MEMORY: u32 = 3;
 
 /// The room for the answer is too short. Nothing is written but how many bytes the answer has.

@@ -25,7 +25,7 @@ pub record IsPrinted (scenario : Scenario) (room after : Text) (len code : ℕ) 
   pub of : IsTextInOrder scenario text
   pub written : IsWritten text room after len code
 
--- The place is written as texts are, and NO stands where a text that is written has OK.
+-- A text by which something is refused is written as texts are, and NO stands where one that is written has OK.
 pub record IsRefusedAt (place room after : Text) (len code : ℕ) : Type 0 where
   pub written_code : ℕ
   pub written : IsWritten place room after len written_code

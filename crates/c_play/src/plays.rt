@@ -7,8 +7,8 @@ ghost use Rattle.script_scenarios.specs.Valid.{IsValid};
 
 use crate::page::GrowingText;
 use c_handle::{NO, OK, OUT_OF_MEMORY, write};
+use play_serial::play_in_turn;
 use play_text::write_play;
-use play_whole::play_in_turn;
 use script_reading::read_scenario;
 use script_scenarios::Scenario;
 use std::alloc::Global;
@@ -27,8 +27,8 @@ fn printed(alloc: Global, scenario: &Scenario) -> Result<GrowingText, OutOfMemor
     }
 }
 
-// Tells the place at which the scenario is refused.
-fn refused(place: &[u8], room: &mut [u8], len: &mut usize) -> u32
+// Tells a text by which something is refused.
+pub(crate) fn refused(place: &[u8], room: &mut [u8], len: &mut usize) -> u32
     ensures told { IsRefusedAt place.now room.old room.new len.new result }
     ensures bound { result ≢ OUT_OF_MEMORY }
 {

@@ -1,4 +1,3 @@
-pub mod Computed
 pub mod FollowingLemmas
 pub mod FragmentLemmas
 pub mod LawLemmas

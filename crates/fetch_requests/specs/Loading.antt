@@ -1,12 +1,12 @@
 -- The request that an element makes which loads a resource (HTML, section 2.5.1 "create a potential-CORS
--- request"), or why it makes none: its text gives no URL.
+-- request"), or why it makes none: its text gives no URL, or is too long.
 use Rattle.std.specs.Prelude.{Bool, true, false, List, [], ◌∷◌, codes, Option, Some, None, Result, Ok, Err}
 use Rattle.std.specs.Prelude.{if◌then◌else◌}
 use Rattle.value_requests.specs.declared.mode.Credentials.TheVariants as credentials
 use Rattle.value_requests.specs.declared.mode.Mode.TheVariants as mode
 use Rattle.value_requests.specs.declared.policy.Destination.TheVariants as destination
 use Rattle.value_requests.specs.declared.request.Referrer.TheVariants as referrer
-use Rattle.fetch_requests.specs.Words.{Absent, Anonymous, BadUrl, Basic, Client, Credentials, CrossOrigin, Destination}
+use Rattle.fetch_requests.specs.Words.{Absent, Anonymous, Basic, Client, Credentials, CrossOrigin, Destination}
 use Rattle.fetch_requests.specs.Words.{Follow, Header, LoadInit, Mode, Parts, Request, TypeFault, UseCredentials}
 use Rattle.fetch_requests.specs.Making.{accept_value, unless_there, url_given}
 
@@ -66,9 +66,9 @@ made_load client init url = record {
 }
 
 -- the request for a URL, where there is one
-abbrev pub load_for : Client → LoadInit → Option Parts → Result Request TypeFault
-load_for client init None = Err BadUrl
-load_for client init (Some url) = Ok (made_load client init url)
+abbrev pub load_for : Client → LoadInit → Result Parts TypeFault → Result Request TypeFault
+load_for client init (Err fault) = Err fault
+load_for client init (Ok url) = Ok (made_load client init url)
 
 -- the request of a load, or its fault
 abbrev pub new_load : Client → LoadInit → Result Request TypeFault

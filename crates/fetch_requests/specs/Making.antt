@@ -1,12 +1,12 @@
 -- The request that a script's `fetch` makes (Fetch, sections 5.4 "new Request" and 5.6), or why it makes
--- none: the first of nine faults.
+-- none: the first of ten faults.
 use Rattle.std.specs.Prelude.{ℕ, ◌+◌, ◌&&◌, ◌||◌, Bool, true, false, not, nat_lt, List, [], ◌∷◌, length}
 use Rattle.std.specs.Prelude.{sum_by, codes, Option, Some, None, is_some, option_map, Result, Ok, Err, if◌then◌else◌}
 use Rattle.policy_safelist.specs.declared.guard.Guard.TheVariants as guard
 use Rattle.value_requests.specs.declared.policy.Destination.TheVariants as destination
 use Rattle.value_requests.specs.declared.request.Referrer.TheVariants as referrer
 use Rattle.fetch_requests.specs.Words.{BadHeader, BadMethod, BadUrl, Basic, BodyWithGet, Client, Destination}
-use Rattle.fetch_requests.specs.Words.{ForbiddenMethod, Guard, Header, Init, Mode, Navigate, NavigateMode, NoCors}
+use Rattle.fetch_requests.specs.Words.{ForbiddenMethod, Guard, Header, Init, LongUrl, Mode, Navigate, NavigateMode, NoCors}
 use Rattle.fetch_requests.specs.Words.{NoCorsMethod, Pair, Parts, Referrer, Request, Text, TooLong, TypeFault}
 use Rattle.fetch_requests.specs.Words.{UrlCredentials, appended, contains, has_credentials, is_forbidden_method}
 use Rattle.fetch_requests.specs.Words.{is_get_or_head, is_header_value, is_safelisted_method, is_token, list_after}
@@ -18,10 +18,16 @@ use Rattle.fetch_requests.specs.Words.{normalized, outcome, then_some, unless_lo
 abbrev pub most_url_text : ℕ
 most_url_text = 786432
 
--- the URL that a text gives against the client's
-abbrev pub url_given : Client → Text → Option Parts
+-- the URL, or BadUrl where there is none
+abbrev pub or_bad_url : Option Parts → Result Parts TypeFault
+or_bad_url None = Err BadUrl
+or_bad_url (Some url) = Ok url
+
+-- the URL that a text gives against the client's, or why it gives none
+abbrev pub url_given : Client → Text → Result Parts TypeFault
 url_given client text =
-    if nat_lt most_url_text (length text) then None else unless_long (url_against client.url text)
+    if nat_lt most_url_text (length text) then Err LongUrl
+    else or_bad_url (unless_long (url_against client.url text))
 
 -- ---- the faults
 
@@ -151,9 +157,9 @@ fault_or None request = Ok request
 fault_or (Some fault) request = Err fault
 
 -- the request for a URL, where there is one
-abbrev pub request_for : Client → Init → Option Parts → Result Request TypeFault
-request_for client init None = Err BadUrl
-request_for client init (Some url) = fault_or (first_fault (faults init url)) (made client init url)
+abbrev pub request_for : Client → Init → Result Parts TypeFault → Result Request TypeFault
+request_for client init (Err fault) = Err fault
+request_for client init (Ok url) = fault_or (first_fault (faults init url)) (made client init url)
 
 -- the request that a `fetch` makes, or its first fault
 abbrev pub new_request : Client → Init → Result Request TypeFault

@@ -18,8 +18,8 @@ pub use Rattle.value_requests.specs.declared.client.Client.{Client}
 pub use Rattle.value_requests.specs.declared.client.Cookie.{Cookie}
 pub use Rattle.value_requests.specs.declared.fault.TypeFault.{TypeFault}
 pub use Rattle.value_requests.specs.declared.fault.TypeFault.TheVariants.{BadHeader, BadMethod, BadUrl, BodyWithGet}
-pub use Rattle.value_requests.specs.declared.fault.TypeFault.TheVariants.{ForbiddenMethod, NavigateMode, NoCorsMethod}
-pub use Rattle.value_requests.specs.declared.fault.TypeFault.TheVariants.{TooLong, UrlCredentials}
+pub use Rattle.value_requests.specs.declared.fault.TypeFault.TheVariants.{ForbiddenMethod, LongUrl, NavigateMode}
+pub use Rattle.value_requests.specs.declared.fault.TypeFault.TheVariants.{NoCorsMethod, TooLong, UrlCredentials}
 pub use Rattle.value_requests.specs.declared.hop.Hop.{Hop}
 pub use Rattle.value_requests.specs.declared.init.CrossOrigin.{CrossOrigin}
 pub use Rattle.value_requests.specs.declared.init.CrossOrigin.TheVariants.{Absent, Anonymous, UseCredentials}

@@ -91,8 +91,9 @@ fn made_load(
 /// fonts and manifests, which are as with `anonymous`. With `anonymous` the mode is cors and the
 /// credentials mode same-origin, with `use-credentials` cors and include.
 ///
-/// Its only fault is `BadUrl`: the URL's text has more than 786,432 bytes, is not UTF-8, gives no URL against the
-/// client's, or gives one whose text has more than 8,192 bytes. A URL may have a user name and a password.
+/// Its faults are `LongUrl`, where the URL's text has more than 786,432 bytes, and `BadUrl`, where it is not UTF-8, gives
+/// no URL against the client's, or gives one whose text has more than 8,192 bytes. A URL may have a user name and a
+/// password.
 pub fn new_load(
     alloc: Global,
     init: &LoadInit,
@@ -103,8 +104,9 @@ pub fn new_load(
     ensures request { IfOk result (λ made. made ≡ spec.new_load client.now init.now) }
     ensures valid { IfOk result (λ made. IfOk made IsRequest) }
 {
-    let Some(url) = url_given(alloc, client, init.url.as_slice())? else {
-        return Ok(Err(TypeFault::BadUrl));
+    let url = match url_given(alloc, client, init.url.as_slice())? {
+        Ok(url) => url,
+        Err(fault) => return Ok(Err(fault)),
     };
     let request = made_load(alloc, client, init, url)?;
     Ok(Ok(request))

@@ -17,18 +17,19 @@ use value_requests::{
 // How many bytes the text of a URL has at most.
 const MOST_URL_TEXT: usize = 786_432;
 
-// The URL that a text gives against the client's, unless the one or the other is too long.
+// The URL that a text gives against the client's, or why it gives none.
 pub(crate) fn url_given(
     alloc: Global,
     client: &Client,
     text: &[u8],
-) -> Result<Option<Url>, OutOfMemory>
+) -> Result<Result<Url, TypeFault>, OutOfMemory>
     ensures { IfOk result (λ url. url ≡ spec.url_given client.now text.now) }
 {
     if text.len() > MOST_URL_TEXT {
-        return Ok(None);
+        return Ok(Err(TypeFault::LongUrl));
     }
-    Ok(unless_long(url_against(alloc, &client.url, text)?))
+    let url = unless_long(url_against(alloc, &client.url, text)?);
+    Ok(url.ok_or(TypeFault::BadUrl))
 }
 
 // The referrer that a script asks for: the client, or none.
@@ -87,16 +88,16 @@ fn made(
 /// The request that a script's `fetch` makes for a client, or its first fault (Fetch, sections 5.4
 /// and 5.6). Faults are looked for in this order:
 ///
-/// 1. `BadUrl`: the URL's text has more than 786,432 bytes, is not UTF-8, gives no URL against the client's, or gives
-///    one whose text has more than 8,192 bytes.
-/// 2. `UrlCredentials`: the URL has a user name or a password.
-/// 3. `BadMethod`: the method is no token.
-/// 4. `ForbiddenMethod`: it is CONNECT, TRACE or TRACK, in any ASCII case.
-/// 5. `BodyWithGet`: there is a body, and the normalized method is GET or HEAD.
-/// 6. `NoCorsMethod`: the mode is no-cors, and that method is not CORS-safelisted.
-/// 7. `BadHeader`, with the index of the first header whose name is no token or whose value is none.
-/// 8. `NavigateMode`: the mode is navigate.
-/// 9. `TooLong`: the method and the headers, as they are given, have more than 16,384 bytes
+/// 1. `LongUrl`: the URL's text has more than 786,432 bytes.
+/// 2. `BadUrl`: it is not UTF-8, gives no URL against the client's, or gives one whose text has more than 8,192 bytes.
+/// 3. `UrlCredentials`: the URL has a user name or a password.
+/// 4. `BadMethod`: the method is no token.
+/// 5. `ForbiddenMethod`: it is CONNECT, TRACE or TRACK, in any ASCII case.
+/// 6. `BodyWithGet`: there is a body, and the normalized method is GET or HEAD.
+/// 7. `NoCorsMethod`: the mode is no-cors, and that method is not CORS-safelisted.
+/// 8. `BadHeader`, with the index of the first header whose name is no token or whose value is none.
+/// 9. `NavigateMode`: the mode is navigate.
+/// 10. `TooLong`: the method and the headers, as they are given, have more than 16,384 bytes
 ///    together, or the body has more than 65,536.
 ///
 /// The headers of the request are the given ones that the guard lets in, then the type of its body
@@ -111,8 +112,9 @@ pub fn new_request(
     ensures request { IfOk result (λ made. made ≡ spec.new_request client.now init.now) }
     ensures valid { IfOk result (λ made. IfOk made IsRequest) }
 {
-    let Some(url) = url_given(alloc, client, init.url.as_slice())? else {
-        return Ok(Err(TypeFault::BadUrl));
+    let url = match url_given(alloc, client, init.url.as_slice())? {
+        Ok(url) => url,
+        Err(fault) => return Ok(Err(fault)),
     };
     let method = normalized_method(alloc, init.method.as_slice())?;
     if let Some(fault) = fault_of(init, method.as_slice(), &url) {

@@ -1,4 +1,3 @@
-pub mod Computed
 pub mod HeadLemmas
 pub mod OpLemmas
 pub mod UpgradingLemmas

@@ -1,9 +1,15 @@
 -- What several writes come to.
-use Rattle.std.proofs.Common.{◌≡◌, ℕ, ◌+◌, ◌≤◌, List, ◌++◌, take, drop, length, Option, Some, None, refl, ap, sym}
+use Rattle.std.proofs.Common.{◌≡◌, ℕ, ◌+◌, ◌≤◌, ◌<◌, List, ◌++◌, take, drop, length, Option, Some, None, refl, ap, sym}
 use Rattle.std.proofs.Common.{[], ◌∙◌, arith, append_assoc, append-nil, length-drop, min, Result, Ok, Err, OnOk, OnErr}
+use Rattle.std.proofs.Math.Nat.{eq-or-lt_of_le}
 use Rattle.std.proofs.Math.Seq.{take-add, take-append-add}
 use Rattle.std.proofs.lemmas.List.{drop-drop, take-append-le, take_min}
-use Rattle.link_traits.specs.Sinks.{Took, TookPart}
+use Rattle.std.proofs.Common.{inl, inr}
+use Rattle.link_traits.specs.Counts.{one_more}
+use Rattle.link_traits.specs.Sinks.{CountsZero, FailedOnce, NeverFailed, SinkTold, Took, TookPart, faults_written}
+use Rattle.link_traits.specs.Sinks.{zeros_written}
+use Rattle.link_traits.specs.declared.sink.WriteFault.{WriteFault}
+use Rattle.link_traits.specs.declared.sink.WriteFault.TheVariants as write
 
 -- so much of the text was taken, and the rest is left
 pub record Wrote (old new : Option (List ℕ)) (text rest : List ℕ) : Type 0 where
@@ -70,3 +76,45 @@ pub err-after : {A E : Type 0} (r : Result A E) (a b c : Option (List ℕ)) (x y
     → OnErr r (TookPart b c y) → OnErr r (TookPart a c (x ++ y))
 err-after (Ok u) a b c x y took part = tt
 err-after (Err e) a b c x y took part = part-after a b c x y took part
+
+-- ---- the counts
+
+-- the count of answers 0 is as it was where something was taken
+pub zeros-still : {E : Type 0} (before now n : ℕ) (piece : List ℕ) → 0 < n
+    → CountsZero {E = E} before now (Ok n) piece → now ≡ before
+zeros-still before now n piece some counts = elim (eq-or-lt_of_le counts.later) [
+  | inl same ↦ sym same
+  | inr less ↦ let none : n ≡ 0 = cc ((counts.cause less).0) in absurd (omega (arith, some, none))
+]
+
+-- and where the sink failed
+pub zeros-failed : {E : Type 0} (before now : ℕ) (e : E) (piece : List ℕ) → CountsZero before now (Err e) piece
+    → now ≡ before
+zeros-failed before now e piece counts = elim (eq-or-lt_of_le counts.later) [
+  | inl same ↦ sym same
+  | inr less ↦ absurd (cc ((counts.cause less).0))
+]
+
+-- where a text was written whole, no write failed
+pub written-quiet : {A : Type 0} (r : Result A WriteFault) (old new : SinkTold)
+    → new.faults ≡ faults_written old.faults r → new.zeros ≡ zeros_written old.zeros r → OnOk r (NeverFailed old new)
+written-quiet (Ok done) old new faults zeros = (faults, zeros)
+written-quiet (Err fault) old new faults zeros = tt
+
+-- and where it was not, one did
+pub written-failed : {A : Type 0} (r : Result A WriteFault) (old new : SinkTold)
+    → new.faults ≡ faults_written old.faults r → new.zeros ≡ zeros_written old.zeros r → OnErr r (FailedOnce old new)
+written-failed (Ok done) old new faults zeros = tt
+written-failed (Err write.Fault) old new faults zeros = inl (faults, zeros)
+written-failed (Err write.TookNothing) old new faults zeros = inr (faults, zeros)
+
+-- a failure after none
+pub failed-later : (old mid new : SinkTold) → NeverFailed old mid → FailedOnce mid new → FailedOnce old new
+failed-later old mid new quiet failed = elim failed [
+  | inl is ↦ inl (is.0 ∙ ap one_more quiet.0, is.1 ∙ quiet.1)
+  | inr is ↦ inr (is.0 ∙ quiet.0, is.1 ∙ ap one_more quiet.1)
+]
+
+-- none after none
+pub quiet-later : (old mid new : SinkTold) → NeverFailed old mid → NeverFailed mid new → NeverFailed old new
+quiet-later old mid new one two = (two.0 ∙ one.0, two.1 ∙ one.1)

@@ -9,7 +9,7 @@ pub record Reading (buffer : ℕ) (old new : Option (List ℕ)) (text : List ℕ
   pub size : buffer ≡ 65536
   pub gave : Gave old new text
   pub within : length text ≤ most
-  pub faults : before ≤ now
+  pub quiet : now ≡ before
 
 -- nothing
 pub gave-nothing : (left : Option (List ℕ)) → Gave left left []

@@ -1,6 +1,9 @@
 -- What a source has left to give, where it tells.
-use Rattle.std.specs.Prelude.{◌≡◌, ℕ, ◌≤◌, [], ◌++◌, length, Option, Some, None}
+use Rattle.std.specs.Prelude.{◌≡◌, ℕ, ◌≤◌, [], ◌++◌, length, Option, Some, None, Result, Ok, Err}
 use Rattle.value_text.specs.Texts.{Text}
+use Rattle.link_traits.specs.Counts.{one_more}
+use Rattle.link_traits.specs.declared.source.ReadStop.{ReadStop}
+use Rattle.link_traits.specs.declared.source.ReadStop.TheVariants as stop
 
 -- the text was given: what was left is it and what is left now
 abbrev pub Gave : Option Text → Option Text → Text → Type 0
@@ -38,3 +41,10 @@ pub record GaveJust (old new : Option Text) (count : ℕ) : Type 0 where
   pub given : Text
   pub gave : Gave old new given
   pub just : length given ≡ count
+
+-- what a source that was read tells of its count of faults: one more where the source failed, and as it was where not
+abbrev pub CountsFault : {T : Type 0} → Result T ReadStop → ℕ → ℕ → Type 0
+CountsFault (Err stop.Fault) before now = now ≡ one_more before
+CountsFault (Err stop.TooLong) before now = now ≡ before
+CountsFault (Err stop.OutOfMemory) before now = now ≡ before
+CountsFault (Ok _) before now = now ≡ before

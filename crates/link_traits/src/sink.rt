@@ -1,8 +1,8 @@
 // Where bytes go: the trait, and how a text is written whole.
-ghost use Rattle.std.specs.Prelude.{◌≡◌, ◌≤◌, [], take, Err, IfOk, OnOk, OnErr};
+ghost use Rattle.std.specs.Prelude.{◌≡◌, [], take, IfOk, OnOk, OnErr};
 ghost use Rattle.std.specs.Io.{WritesAtMost};
-ghost use Rattle.link_traits.specs.Counts.{HasCause, Rose};
-ghost use Rattle.link_traits.specs.Sinks.{CountsZero, SinkTold, Took, TookPart};
+ghost use Rattle.link_traits.specs.Counts.{HasCause};
+ghost use Rattle.link_traits.specs.Sinks.{CountsZero, SinkTold, Took, TookPart, faults_written, zeros_written};
 ghost use Rattle.link_traits.specs.Sources.{SourceTold};
 
 use crate::source::Failed;
@@ -16,8 +16,8 @@ pub trait Sink {
     /// What it tells as a source, where it is one beside (`Peer`): writing leaves that as it is.
     ghost beside: { Self → SourceTold };
 
-    /// Takes a first part of the piece, and answers how many bytes. The count of faults
-    /// rises by one where it fails, and only there.
+    /// Takes a first part of the piece, and answers how many bytes. The count of faults rises by one where it fails,
+    /// and only there; that of answers 0 where it takes nothing of a piece that is not empty, and only there.
     fn write(&mut self, piece: &[u8]) -> Result<usize, Failed>
         ensures count { WritesAtMost result piece.now }
         ensures took { IfOk result (λ n. Took (takes self.old).taken (takes self.new).taken (take n piece.now)) }
@@ -36,14 +36,13 @@ pub enum WriteFault {
     TookNothing,
 }
 
-/// Writes the whole text. After a fault the sink has taken a prefix of it.
+/// Writes the whole text. After a fault the sink has taken a prefix of it, and is asked no more: of its counts the one
+/// that tells of the fault rose by one. Without a fault both are as they were.
 pub fn write_whole<K: Sink>(sink: &mut K, text: &[u8]) -> Result<(), WriteFault>
     ensures ok { OnOk result (Took (K.takes sink.old).taken (K.takes sink.new).taken text.now) }
     ensures err { OnErr result (TookPart (K.takes sink.old).taken (K.takes sink.new).taken text.now) }
-    ensures faults { (K.takes sink.old).faults ≤ (K.takes sink.new).faults }
-    ensures zeros { (K.takes sink.old).zeros ≤ (K.takes sink.new).zeros }
-    ensures fault { result ≡ Err WriteFault.Fault → Rose (K.takes sink.old).faults (K.takes sink.new).faults }
-    ensures nothing { result ≡ Err WriteFault.TookNothing → Rose (K.takes sink.old).zeros (K.takes sink.new).zeros }
+    ensures faults { (K.takes sink.new).faults ≡ faults_written (K.takes sink.old).faults result }
+    ensures zeros { (K.takes sink.new).zeros ≡ zeros_written (K.takes sink.old).zeros result }
     ensures beside { K.beside sink.new ≡ K.beside sink.old }
 {
     let mut rest = text;

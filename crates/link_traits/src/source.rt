@@ -1,9 +1,9 @@
 // Where bytes come from: the trait, and how a source is read to its end.
 ghost use Rattle.std.specs.Prelude.{◌≡◌, ◌+◌, ◌<◌, ◌≤◌, ◌^◌, [], take, length, Ok, Err, IfOk, OnErr, vec_len};
 ghost use Rattle.std.specs.Io.{ReadsAtMost};
-ghost use Rattle.link_traits.specs.Counts.{HasCause, Rose};
+ghost use Rattle.link_traits.specs.Counts.{HasCause};
 ghost use Rattle.link_traits.specs.Sinks.{SinkTold};
-ghost use Rattle.link_traits.specs.Sources.{Gave, GaveAtMost, GaveJust, GaveWhole, IsAtEnd, SourceTold};
+ghost use Rattle.link_traits.specs.Sources.{CountsFault, Gave, GaveAtMost, GaveJust, GaveWhole, IsAtEnd, SourceTold};
 
 use std::alloc::Global;
 use value_bytes::{Bytes, OutOfMemory};
@@ -54,8 +54,8 @@ fn piece_buffer(alloc: Global) -> Result<Vec<u8>, OutOfMemory>
 
 /// Reads the source to its end, which is to come within `most` bytes.
 ///
-/// One byte more is `TooLong`, and no byte after it is read. A read that failed is `Fault`, and
-/// refused memory `OutOfMemory`: then the source has given at most `most` bytes.
+/// One byte more is `TooLong`, and no byte after it is read. A read that failed is `Fault`, and refused memory is
+/// `OutOfMemory`: then the source has given at most `most` bytes.
 pub fn read_whole<S: Source>(alloc: Global, source: &mut S, most: usize) -> Result<Bytes, ReadStop>
     requires { most < 2 ^ 32 }
     ensures ok { IfOk result (λ text. GaveWhole (S.gives source.old).left (S.gives source.new).left text most) }
@@ -65,8 +65,7 @@ pub fn read_whole<S: Source>(alloc: Global, source: &mut S, most: usize) -> Resu
         → GaveAtMost (S.gives source.old).left (S.gives source.new).left most }
     ensures refused { result ≡ Err ReadStop.OutOfMemory
         → GaveAtMost (S.gives source.old).left (S.gives source.new).left most }
-    ensures faults { (S.gives source.old).faults ≤ (S.gives source.new).faults }
-    ensures fault { result ≡ Err ReadStop.Fault → Rose (S.gives source.old).faults (S.gives source.new).faults }
+    ensures faults { CountsFault result (S.gives source.old).faults (S.gives source.new).faults }
 {
     let mut buffer = match piece_buffer(alloc) {
         Ok(buffer) => buffer,

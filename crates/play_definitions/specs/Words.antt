@@ -29,6 +29,7 @@ pub use Rattle.script_runs.specs.Runs.{Progress, Setting, after_events, at_time,
 pub use Rattle.script_runs.specs.Runs.{most_fetches, setting}
 pub use Rattle.script_runs.specs.Traces.{PlayTrace}
 pub use Rattle.script_scenarios.specs.Servers.{answer}
+pub use Rattle.script_scenarios.specs.Valid.{IsValid}
 pub use Rattle.script_scenarios.specs.declared.document.Document.{Document}
 pub use Rattle.script_scenarios.specs.declared.hosts.KnownHost.{KnownHost}
 pub use Rattle.script_scenarios.specs.declared.scenario.Scenario.{Scenario}

@@ -2,6 +2,7 @@
 // definitions, and the types that they speak of.
 #![tactic(auto)]
 
+mod driver;
 mod fetch;
 mod fetcher;
 mod lent;
@@ -9,6 +10,7 @@ mod played;
 mod player;
 mod seating;
 
+pub use driver::Driver;
 pub use fetch::FetchRun;
 pub use fetcher::Fetcher;
 pub use lent::Lent;

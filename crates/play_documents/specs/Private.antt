@@ -1,3 +1,2 @@
--- What private contracts alone cite: parts of a run, and seats in rows.
+-- What private contracts alone cite: parts of a run.
 pub mod Parts
-pub mod Rows

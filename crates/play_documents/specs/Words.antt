@@ -1,5 +1,4 @@
 -- The words of other crates of which the specs and the contracts speak, each brought in once.
-pub use Rattle.std.specs.List.{All, range_with_len}
 pub use Rattle.fetch_acts.specs.declared.act.Input.{Input}
 pub use Rattle.fetch_requests.specs.Loading.{new_load}
 pub use Rattle.fetch_requests.specs.Making.{new_request}
@@ -13,16 +12,13 @@ pub use Rattle.script_scenarios.specs.ValidScripts.{AreValid, IsValidInit, IsVal
 pub use Rattle.script_events.specs.declared.events.Ending.{Ending}
 pub use Rattle.script_events.specs.declared.events.Ending.TheVariants.{Finished, Memory}
 pub use Rattle.script_events.specs.declared.events.Event.{Event}
-pub use Rattle.script_events.specs.declared.events.Transcript.{Transcript}
 pub use Rattle.script_filling.specs.Filled.{filled_init, filled_load}
 pub use Rattle.script_filling.specs.Results.{lent_result}
-pub use Rattle.script_runs.specs.Documents.{EachDocument}
 pub use Rattle.script_runs.specs.Play.{Play}
 pub use Rattle.script_runs.specs.Runs.{Next, Setting, after_events, asked, beginning, chosen, command_started}
 pub use Rattle.script_runs.specs.Runs.{document_client, document_run, fetched, finished, limit_before, most_commands}
 pub use Rattle.script_runs.specs.Runs.{most_fetches, repeated, script_run, started, unless_limit}
 pub use Rattle.script_scenarios.specs.Valid.{IsValid, IsValidDocument}
 pub use Rattle.script_scenarios.specs.declared.document.Document.{Document}
-pub use Rattle.script_scenarios.specs.declared.scenario.Scenario.{Scenario}
 pub use Rattle.value_bytes.specs.declared.memory.OutOfMemory.{OutOfMemory}
 pub use Rattle.value_requests.specs.Requests.{IsClient, IsRequest}

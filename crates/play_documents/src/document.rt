@@ -1,9 +1,9 @@
 // One document, played.
-ghost use Rattle.std.specs.Prelude.{◌<◌, ◌^◌, ◌≡◌, ◌≢◌, ◌≤◌, IfOk, OnErr, Some, length, slice_get};
+ghost use Rattle.std.specs.Prelude.{◌^◌, ◌≡◌, ◌≢◌, ◌≤◌, IfOk, OnErr};
 ghost use Rattle.play_definitions.specs.Playing.{RunCameTo};
 ghost use Rattle.play_documents.specs.Private.Parts as spec;
 ghost use Rattle.play_definitions.specs.Standings.{lent_setting};
-ghost use Rattle.play_documents.specs.Words.{AreValid, Document as OneDocument, IsAtEnd, IsClient, IsIdle, IsValid};
+ghost use Rattle.play_documents.specs.Words.{AreValid, IsAtEnd, IsClient, IsIdle};
 ghost use Rattle.play_documents.specs.Words.{IsValidDocument, Memory, beginning, document_client, document_run};
 ghost use Rattle.play_documents.specs.Words.{exchange_of, finished, over_link, script_run};
 ghost use Rattle.play_definitions.specs.Worlds.{KeepsPass, most_calls, outside};
@@ -12,7 +12,7 @@ use crate::commands::script;
 use book_calls::Share;
 use fetch_wire::Wire;
 use link_traits::Link;
-use play_definitions::{Fetcher, Lent, Player};
+use play_definitions::{Driver, Fetcher, Lent, Player};
 use policy_csp::Compiled;
 use script_events::{Ending, Events, Transcript};
 use script_runs::Running;
@@ -117,47 +117,36 @@ fn run_document<F: Fetcher, S: Share, L: Link>(
     ))
 }
 
-/// Plays a document's script with what plays its fetches, over a link and a share of the book, from a time in seconds
-/// on, which is at most 2^40. The document is that of the scenario with this number. It makes 129,024 calls of the book
-/// at most, which the pass has left.
-///
-/// What the transcript shows is the document's run over a tape of what the world answers, as with `drive_fetch`. At
-/// another ending than `Memory` nothing is to come over the link, where it tells it. At `Memory` what was shown begins
-/// such a run, the calls made are those on the way, an answer may be read in part, and key and clock may be any.
-pub fn drive<F: Fetcher, S: Share, L: Link>(
-    fetcher: &F,
-    alloc: Global,
-    scenario: &Scenario,
-    document: u32,
-    base: u64,
-    share: &S,
-    pass: &mut S::Pass,
-    link: &mut L,
-) -> Transcript
-    requires scenario { IsValid scenario.now × (document < length scenario.now.documents) }
-    requires base { base ≤ 2 ^ 40 }
-    requires pass { S.belongs share.now pass.old × (most_calls ≤ (S.account pass.old).left) }
-    ensures came { (one : OneDocument) → slice_get scenario.entry.now.documents document ≡ Some one
-        → RunCameTo (over_link L.serves) scenario.entry.now.body_limit (S.account pass.old).document
-        (document_run scenario.entry.now.cookies base one) (outside S.account L.told pass.old link.old) result.events
-        result.ending result.clock (outside S.account L.told pass.new link.new) }
-    ensures hung_up { result.ending ≢ Memory → IsAtEnd (L.told link.new).left }
-    ensures number { result.document ≡ document }
-    ensures key { (one : OneDocument) → slice_get scenario.entry.now.documents document ≡ Some one
-        → result.ending ≢ Memory → result.key ≡ (document_client one).key }
-    ensures pass { KeepsPass S.account (S.belongs share.now) most_calls pass.old pass.new }
-{
-    let one = scenario.documents.at(document as usize);
-    match run_document(
-        fetcher, alloc, scenario, document, one, base, share, pass, link,
-    ) {
-        Ok(transcript) => transcript,
-        Err(OutOfMemory) => Transcript {
-            document,
-            key: Bytes::new(alloc),
-            events: Events::new(alloc),
-            ending: Ending::Memory,
-            clock: base,
-        },
+/// Plays documents with what plays their fetches.
+#[derive(Clone, Copy, Debug)]
+pub struct ByFetches<F> {
+    pub fetcher: F,
+}
+
+impl<F: Fetcher> Driver for ByFetches<F> {
+    fn drive<S: Share, L: Link>(
+        &self,
+        alloc: Global,
+        scenario: &Scenario,
+        document: u32,
+        base: u64,
+        share: &S,
+        pass: &mut S::Pass,
+        link: &mut L,
+    ) -> Transcript {
+        let fetcher = &self.fetcher;
+        let one = scenario.documents.at(document as usize);
+        match run_document(
+            fetcher, alloc, scenario, document, one, base, share, pass, link,
+        ) {
+            Ok(transcript) => transcript,
+            Err(OutOfMemory) => Transcript {
+                document,
+                key: Bytes::new(alloc),
+                events: Events::new(alloc),
+                ending: Ending::Memory,
+                clock: base,
+            },
+        }
     }
 }

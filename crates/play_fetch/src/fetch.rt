@@ -160,7 +160,6 @@ pub fn drive_fetch<S: Share, L: Link>(
         policies,
         cookies,
         limit: body_limit,
-        // a fetch by itself shares the room for filled texts with none
     };
     let mut player = Player {
         lent: &lent,

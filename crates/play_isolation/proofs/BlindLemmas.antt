@@ -1,6 +1,7 @@
 -- A document's run goes on from what it may learn of an input as from the input, and shows no call but where it makes
 -- one.
-use Rattle.std.proofs.Common.{◌≡◌, ℕ, Bool, true, false, List, [], ◌∷◌, Option, Some, None, Result, IsTrue, refl, subst}
+use Rattle.std.proofs.Common.{◌≡◌, ℕ, Bool, true, false, List, [], ◌∷◌, Option, Some, None, Result, Ok, Err, IsTrue}
+use Rattle.std.proofs.Common.{refl, subst}
 use Rattle.std.specs.Prelude.{◌||◌, IfOk}
 use Rattle.url.specs.Parts.{Parts}
 use Rattle.value_requests.specs.declared.client.Client.{Client}
@@ -48,14 +49,16 @@ plain-fault : (fault : Option TypeFault) (request : Request) → IsPlain request
 plain-fault None request plain = plain
 plain-fault (Some fault) request plain = tt
 
-plain-request : (client : Client) (init : Init) (url : Option Parts) → IfOk (request_for client init url) IsPlain
-plain-request client init None = tt
-plain-request client init (Some url) =
+plain-request : (client : Client) (init : Init) (url : Result Parts TypeFault)
+    → IfOk (request_for client init url) IsPlain
+plain-request client init (Err fault) = tt
+plain-request client init (Ok url) =
     plain-fault (first_fault (faults init url)) (made client init url) (or-true (is_follow init.redirect))
 
-plain-load : (client : Client) (init : LoadInit) (url : Option Parts) → IfOk (load_for client init url) IsPlain
-plain-load client init None = tt
-plain-load client init (Some url) = refl
+plain-load : (client : Client) (init : LoadInit) (url : Result Parts TypeFault)
+    → IfOk (load_for client init url) IsPlain
+plain-load client init (Err fault) = tt
+plain-load client init (Ok url) = refl
 
 plain-made : (client : Client) (request : Request) → IsMade client request → IsPlain request
 plain-made client request (IsMade.by_fetch init is) =

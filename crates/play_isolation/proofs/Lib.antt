@@ -1,10 +1,5 @@
 pub mod AloneLemmas
 pub mod BlindLemmas
-pub mod ExchangeLemmas
-pub mod HiddenLemmas
 pub mod HistoryLemmas
-pub mod OnceLemmas
-pub mod OrderLemmas
 pub mod OwnLemmas
 pub mod PlayLemmas
-pub mod TranscriptLemmas

@@ -1,14 +1,14 @@
 -- Laws of documents' runs, over every tape and every history: a run depends on the replies of the shared book and on
 -- what the document may learn of the answers alone; and the replies on what was done under the document's key, and
 -- noted of known hosts, alone (this project's own definition).
-use Rattle.std.specs.Prelude.{◌≡◌, ◌≤◌, ◌^◌, ℕ, true, List, Some}
+use Rattle.std.specs.Prelude.{◌≡◌, ◌≤◌, ◌^◌, ℕ, true, List}
 use Rattle.play_isolation.specs.Words.{AllByRecursion, Answering, AreValid, Book, Cookie, Document, Entry, InRange}
-use Rattle.play_isolation.specs.Words.{Input, IsPlay, IsPlayOver, IsTranscript, Legal, Made, Play, Scenario, Transcript}
-use Rattle.play_isolation.specs.Words.{Way, document_client, document_run, entries_of, is_of_key, opening_book}
+use Rattle.play_isolation.specs.Words.{Input, IsPlayOver, IsTranscript, Legal, Made, Play, Scenario, Transcript}
+use Rattle.play_isolation.specs.Words.{Way, document_client, document_run, is_of_key, opening_book}
 use Rattle.play_isolation.specs.Words.{replies_on, run_play, views_on}
 use Rattle.play_isolation.specs.Alone.{alone, pasts}
 use Rattle.play_isolation.specs.Apart.{apart, plan_of}
-use Rattle.play_isolation.specs.Calls.{PartAtReply, calls_in, document_calls}
+use Rattle.play_isolation.specs.Calls.{calls_in, document_calls}
 use Rattle.play_isolation.specs.Isolated.{AllAreAlone, run_in, run_of}
 
 -- ---- runs over tapes
@@ -64,38 +64,6 @@ RunsAlike =
     → run_play whole tape ≡ run_play whole different
 
 -- ---- plays
-
--- A link tells its state at the first, and has not failed since.
-pub record TellsWithoutFaults {State : Type 0} (old new : Way State) : Type 0 where
-  pub state : State
-  pub told : old.state ≡ Some state
-  pub none : new.faults ≡ 0
-
--- A scenario, a time, a history and links that tell and do not fail determine the tape of a document's run, and what it
--- sends and sees.
-abbrev pub TapesOnce : Type 0 → Type 0
-TapesOnce State =
-    (by : Answering State) (scenario : Scenario) (base : ℕ) (history : List Entry) (number : ℕ) (document : Document)
-    (old new : Way State) (transcript different : Transcript) → TellsWithoutFaults old new
-    → (one : IsTranscript by scenario base history number document old new transcript)
-    → (two : IsTranscript by scenario base history number document old new different)
-    → (one.run_is.ran.tape ≡ two.run_is.ran.tape) × (transcript ≡ different)
-
--- In two histories a document's runs over such links make the same calls, up to the first that is replied to otherwise:
--- what was replied so far determines the next call, or that there is none.
-abbrev pub CallsFollow : Type 0 → Type 0
-CallsFollow State =
-    (by : Answering State) (scenario : Scenario) (base : ℕ) (history others : List Entry) (number : ℕ)
-    (document : Document) (old new : Way State) (transcript different : Transcript) → TellsWithoutFaults old new
-    → IsTranscript by scenario base history number document old new transcript
-    → IsTranscript by scenario base others number document old new different
-    → PartAtReply (entries_of number history) (entries_of number others)
-
--- so a scenario has one play over its servers with a history
-abbrev pub PlaysOnce : Type 0
-PlaysOnce =
-    (scenario : Scenario) (transcripts others : List Transcript) (history : List Entry)
-    → IsPlay scenario transcripts history → IsPlay scenario others history → transcripts ≡ others
 
 -- in a play what each document sends and sees is what it would alone
 abbrev pub PlaysAlone : Type 0 → Type 0

@@ -1,7 +1,6 @@
 pub mod Alone
 pub mod Apart
 pub mod Calls
-pub mod Hidden
 pub mod Isolated
 pub mod Laws
 pub mod Words

@@ -1,9 +1,7 @@
 // Laws of isolation: on what alone a document's run rests.
-ghost use Rattle.play_isolation.specs.Hidden as hidden;
 ghost use Rattle.play_isolation.specs.Laws as laws;
 
 use book_calls::law_pasts;
-use link_http1::law_one_end;
 use link_traits::Link;
 
 /// A law: a document's run over a tape is that over the replies of the shared book and over what the document may learn
@@ -40,34 +38,9 @@ pub fn law_two_worlds<L: Link, M: Link>()
     law_pasts();
 }
 
-/// A law: where its links tell and do not fail, a scenario and a history determine a play: the tape of each document's
-/// run, and its transcript. The call does nothing.
-pub fn law_one_play<L: Link>()
-    ensures tapes { laws.TapesOnce L.State }
-    ensures plays { laws.PlaysOnce }
-{
-    law_one_end();
-}
-
-/// A law: where its links tell and do not fail, a document's runs in two histories make the same calls, up to the first
-/// that is replied to otherwise. The call does nothing.
-pub fn law_same_calls<L: Link>()
-    ensures { laws.CallsFollow L.State }
-{
-    law_one_end();
-}
-
 /// A law: in a play over any links what each document sends and sees is what it would alone. The call does nothing.
 pub fn law_isolated<L: Link>()
     ensures { laws.PlaysAlone L.State }
 {
     law_pasts();
 }
-
-/// A law: of an opaque response, as of a load from another origin, a document may learn neither the status nor another
-/// header than those that a known host and the checks of the response rest on; and of a response that is refused none
-/// but those of its check. The call does nothing.
-pub fn law_hidden()
-    ensures opaque { hidden.HidesOpaque }
-    ensures refused { hidden.HidesRefused }
-{}

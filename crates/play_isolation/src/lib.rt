@@ -3,7 +3,4 @@
 
 mod laws;
 
-pub use laws::{
-    law_alone, law_apart, law_hidden, law_isolated, law_one_play, law_own_calls, law_same_calls,
-    law_two_worlds,
-};
+pub use laws::{law_alone, law_apart, law_isolated, law_own_calls, law_two_worlds};

@@ -1,5 +1,4 @@
 pub mod ClosedLemmas
-pub mod Computed
 pub mod LendingLemmas
 pub mod LinkLemmas
 pub mod ListLemmas

@@ -4,7 +4,7 @@ use Rattle.std.proofs.Common.{refl, ap}
 use Rattle.std.proofs.Common.{sym, ◌∙◌, arith, cond, subst}
 use Rattle.std.specs.List.{flat_map, list_all, prefix_len}
 use Rattle.std.proofs.lemmas.List.{append-nil, nil_from_length}
-use Rattle.script_events.specs.Escapes.{escaped, hex_escape, is_plain}
+use Rattle.script_lines.specs.Escapes.{escaped, hex_escape, is_plain}
 
 -- a byte by itself where the test holds
 abbrev pub kept_or : (ℕ → Bool) → (ℕ → List ℕ) → ℕ → List ℕ

@@ -1,5 +1,4 @@
 pub mod Failures
-pub mod Laws
 pub mod Plain
 pub mod Private
 pub mod Summary

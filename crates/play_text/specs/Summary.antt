@@ -7,7 +7,7 @@ use Rattle.value_requests.specs.declared.response.Outcome.TheVariants as outcome
 use Rattle.script_events.specs.declared.events.Event.{Event}
 use Rattle.script_events.specs.declared.events.Event.TheVariants as event
 use Rattle.script_events.specs.declared.events.Transcript.{Transcript}
-use Rattle.script_events.specs.Lines.{line}
+use Rattle.script_lines.specs.Lines.{line}
 
 -- a fetch started
 abbrev pub is_fetch : Event → Bool

@@ -4,11 +4,11 @@ use Rattle.std.specs.Prelude.{List, [], ◌++◌, codes, decimal}
 use Rattle.std.specs.List.{flat_map}
 use Rattle.value_text.specs.Texts.{Text}
 use Rattle.book_calls.specs.declared.entry.Entry.{Entry}
-use Rattle.script_events.specs.Calls.{call_text}
+use Rattle.script_lines.specs.Calls.{call_text}
 use Rattle.script_events.specs.declared.events.Ending.{Ending}
 use Rattle.script_events.specs.declared.events.Ending.TheVariants as ending
 use Rattle.script_events.specs.declared.events.Transcript.{Transcript}
-use Rattle.script_events.specs.Lines.{line, event_text}
+use Rattle.script_lines.specs.Lines.{line, event_text}
 
 -- how a document ended; one that ended for memory is never printed
 abbrev pub ending_line : Ending → Text

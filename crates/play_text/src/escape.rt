@@ -2,10 +2,10 @@
 ghost use Rattle.std.specs.Prelude.{◌≡◌, ◌<◌, ◌++◌, OnOk};
 ghost use Rattle.std.specs.List.{prefix_len};
 ghost use Rattle.std.specs.Char.{digit_char};
-ghost use Rattle.script_events.specs.Escapes as spec;
+ghost use Rattle.script_lines.specs.Escapes as spec;
 
 use crate::page::Page;
-use script_events::{are_plain, is_plain};
+use script_lines::{are_plain, is_plain};
 use value_bytes::OutOfMemory;
 
 // How many bytes are looked at together.

@@ -4,14 +4,12 @@
 mod escape;
 mod failure;
 mod history;
-mod laws;
 mod lines;
 mod page;
 mod play;
 mod summary;
 
 pub use failure::Failure;
-pub use laws::law_one_history;
 pub use lines::{add_event, add_number};
 pub use page::Page;
 pub use play::{write_entries, write_play, write_text};

@@ -1,15 +1,16 @@
 // Events and calls of the shared book as they are told to a page, and numbers on it.
-#![tactic(auto, unfolding(script_events::specs::Kept::told))]
+#![tactic(auto, unfolding(script_lines::specs::Kept::told))]
 
 ghost use Rattle.std.specs.Prelude.{◌≡◌, ◌++◌, OnOk};
-ghost use Rattle.script_events.specs.Calls.{call_text};
-ghost use Rattle.script_events.specs.Lines.{event_text};
+ghost use Rattle.script_lines.specs.Calls.{call_text};
+ghost use Rattle.script_lines.specs.Lines.{event_text};
 
 use crate::escape::add_escaped;
 use crate::page::Page;
 use book_calls::{Op, Reply};
 use itoa::{Buffer, Integer};
-use script_events::{Event, Receiver, tell_call, tell_event};
+use script_events::Event;
+use script_lines::{Receiver, tell_call, tell_event};
 use value_bytes::OutOfMemory;
 
 /// Adds a number in decimal to a text. Where memory is refused the text is any.
@@ -21,7 +22,7 @@ pub fn add_number<I: Integer>(text: &mut Page, number: I) -> Result<(), OutOfMem
 }
 
 impl Receiver for Page {
-    ghost use Rattle.script_events.specs.Kept.{whole};
+    ghost use Rattle.script_lines.specs.Kept.{whole};
 
     type Refusal = OutOfMemory;
 

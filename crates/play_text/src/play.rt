@@ -1,10 +1,8 @@
 // The printed text of a play: each document's transcript, and the history.
-ghost use Rattle.std.specs.Prelude.{◌≡◌, ◌≤◌, ◌++◌, Err, IfOk, OnOk, OnErr};
+ghost use Rattle.std.specs.Prelude.{◌≡◌, ◌++◌, IfOk, OnOk};
 ghost use Rattle.std.specs.List.{flat_map};
-ghost use Rattle.link_traits.specs.Counts.{Rose};
-ghost use Rattle.link_traits.specs.Sinks.{Took, TookPart};
 ghost use Rattle.script_events.specs.Endings.{HasText};
-ghost use Rattle.script_events.specs.Lines.{event_text};
+ghost use Rattle.script_lines.specs.Lines.{event_text};
 ghost use Rattle.play_text.specs.Text as spec;
 ghost use Rattle.play_text.specs.Writes.{Writes};
 
@@ -133,17 +131,7 @@ pub fn write_play<K: Sink>(
     sink: &mut K,
 ) -> Result<(), Failure>
     requires { HasText transcripts.now }
-
-    ensures ok { OnOk result
-        (Took (K.takes sink.old).taken (K.takes sink.new).taken (spec.play_text transcripts.now history.now)) }
-    ensures err { OnErr result
-        (TookPart (K.takes sink.old).taken (K.takes sink.new).taken (spec.play_text transcripts.now history.now)) }
-
-    // The counts of the sink never fall, and tell the cause of a failure.
-    ensures faults { (K.takes sink.old).faults ≤ (K.takes sink.new).faults }
-    ensures zeros { (K.takes sink.old).zeros ≤ (K.takes sink.new).zeros }
-    ensures fault { result ≡ Err Failure.Fault → Rose (K.takes sink.old).faults (K.takes sink.new).faults }
-    ensures nothing { result ≡ Err Failure.TookNothing → Rose (K.takes sink.old).zeros (K.takes sink.new).zeros }
+    ensures { Writes (K.takes sink.old) (K.takes sink.new) (spec.play_text transcripts.now history.now) result }
 {
     put_play(alloc, transcripts.as_slice(), history.as_slice(), sink)
 }

@@ -1,12 +1,10 @@
 // The summary of a play: its counts, a line each.
-ghost use Rattle.std.specs.Prelude.{◌≡◌, ◌≤◌, ◌++◌, codes, length, filter, Err, IfOk, OnOk, OnErr};
-ghost use Rattle.link_traits.specs.Counts.{Rose};
-ghost use Rattle.link_traits.specs.Sinks.{Took, TookPart};
+ghost use Rattle.std.specs.Prelude.{◌≡◌, ◌++◌, codes, length, filter, IfOk, OnOk};
 ghost use Rattle.play_text.specs.Private.Kinds.{is_of};
 ghost use Rattle.play_text.specs.Writes.{Writes};
 ghost use Rattle.play_text.specs.Summary as spec;
 ghost use Rattle.script_events.specs.Endings.{HasText};
-ghost use Rattle.script_events.specs.Lines.{line};
+ghost use Rattle.script_lines.specs.Lines.{line};
 
 use crate::failure::Failure;
 use crate::lines::add_number;
@@ -124,17 +122,7 @@ pub fn write_summary<K: Sink>(
     sink: &mut K,
 ) -> Result<(), Failure>
     requires { HasText transcripts.now }
-
-    ensures ok { OnOk result
-        (Took (K.takes sink.old).taken (K.takes sink.new).taken (spec.summary_text n transcripts.now history.now)) }
-    ensures err { OnErr result
-        (TookPart (K.takes sink.old).taken (K.takes sink.new).taken (spec.summary_text n transcripts.now history.now)) }
-
-    // The counts of the sink never fall, and tell the cause of a failure.
-    ensures faults { (K.takes sink.old).faults ≤ (K.takes sink.new).faults }
-    ensures zeros { (K.takes sink.old).zeros ≤ (K.takes sink.new).zeros }
-    ensures fault { result ≡ Err Failure.Fault → Rose (K.takes sink.old).faults (K.takes sink.new).faults }
-    ensures nothing { result ≡ Err Failure.TookNothing → Rose (K.takes sink.old).zeros (K.takes sink.new).zeros }
+    ensures { Writes (K.takes sink.old) (K.takes sink.new) (spec.summary_text n transcripts.now history.now) result }
 {
     put_summary(alloc, n, transcripts.as_slice(), history.as_slice(), sink)
 }

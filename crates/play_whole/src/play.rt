@@ -3,20 +3,20 @@ ghost use Rattle.std.specs.Prelude.{◌≤◌, ◌+◌, ◌^◌, vec_capacity, v
 ghost use Rattle.script_events.specs.Endings.{HasText};
 ghost use Rattle.script_scenarios.specs.Valid.{IsValid};
 ghost use Rattle.fetch_wire.specs.Wires.{over_link};
-ghost use Rattle.play_whole.specs.Links.{IsPlayOverLinks, WasRefused};
+ghost use Rattle.play_links.specs.Links.{IsPlayOverLinks, WasRefused};
 ghost use Rattle.play_seats.specs.Makers.{maker_of};
 ghost use Rattle.play_seats.specs.Seated.{AreReady};
-ghost use Rattle.play_whole.specs.Private.Seated.{AreUnseated};
-ghost use Rattle.play_whole.specs.Refused.{NoneOrAllPlayed};
+ghost use Rattle.play_links.specs.Unseated.{AreUnseated};
+ghost use Rattle.play_links.specs.Refused.{NoneOrAllPlayed};
 ghost use Rattle.play_definitions.specs.Plays.{IsPlay, IsPlayOver};
 
 use book_turns::{Closed, TurnBook, TurnPass, TurnShare};
 use link_traits::Links;
-use play_definitions::{Played, Seating};
-use play_documents::play_all;
+use play_definitions::{Driver, Played, Seating};
 use play_faults::{law_faults_counted, law_faults_shown};
-use play_fetch::OverLink;
+use play_links::SCRIPTED_THREADS;
 use play_seats::{SimLinks, open_play, unseat};
+use play_threads::play_all;
 use script_events::has_text;
 use script_scenarios::Scenario;
 use std::alloc::Global;
@@ -25,8 +25,9 @@ use std::thread::Threads;
 use value_bytes::OutOfMemory;
 
 // Plays each document on its seat, takes the links back, in order of documents, and closes the book.
-fn play_seated<R: Threads + Wait + Sync, N: Links>(
+fn play_seated<R: Threads + Wait + Sync, D: Driver + Sync, N: Links>(
     rt: &R,
+    driver: &D,
     alloc: Global,
     scenario: &Scenario,
     base: u64,
@@ -50,7 +51,7 @@ fn play_seated<R: Threads + Wait + Sync, N: Links>(
 {
     let share = TurnShare { rt, book: &book };
     let played = play_all(
-        rt, &OverLink, alloc, scenario, base, &share, threads, &mut seats,
+        rt, driver, alloc, scenario, base, &share, threads, &mut seats,
     );
     unseat(seats, links, &mut passes);
     let Closed { book: _, history } = book.close(passes);
@@ -74,8 +75,9 @@ fn play_seated<R: Threads + Wait + Sync, N: Links>(
 /// be made; then the links that were made were taken back in order of documents: they tell what they told when they
 /// were made, or, where the documents were played, what their runs have left. The calls of those runs are one legal
 /// history too.
-pub fn play_over<R: Threads + Wait + Sync, N: Links>(
+pub fn play_over<R: Threads + Wait + Sync, D: Driver + Sync, N: Links>(
     rt: &R,
+    driver: &D,
     alloc: Global,
     scenario: &Scenario,
     base: u64,
@@ -97,6 +99,7 @@ pub fn play_over<R: Threads + Wait + Sync, N: Links>(
     let open = open_play(alloc, scenario, links)?;
     play_seated(
         rt,
+        driver,
         alloc,
         scenario,
         base,
@@ -108,13 +111,11 @@ pub fn play_over<R: Threads + Wait + Sync, N: Links>(
     )
 }
 
-/// On how many threads at most documents are played over their scenario's own servers. These answer at once, so more
-/// threads than processors gain nothing, and what a document holds while it runs is held that many times at most.
-pub const SCRIPTED_THREADS: usize = 16;
-
-/// Plays a scenario over its own servers, from its own time on.
-pub fn play_scripted<R: Threads + Wait + Sync>(
+/// Plays a scenario over its own servers, from its own time on, on at most `SCRIPTED_THREADS` threads. `OutOfMemory`
+/// where memory was refused, to a document or to what surrounds them.
+pub fn play_scripted<R: Threads + Wait + Sync, D: Driver + Sync>(
     rt: &R,
+    driver: &D,
     alloc: Global,
     scenario: &Scenario,
 ) -> Result<Played, OutOfMemory>
@@ -125,6 +126,7 @@ pub fn play_scripted<R: Threads + Wait + Sync>(
     let mut links = SimLinks::new(scenario);
     play_over(
         rt,
+        driver,
         alloc,
         scenario,
         scenario.now,

@@ -1,7 +1,7 @@
 -- The request that a document makes is of words where its URL is http or https.
 use Rattle.std.proofs.Common.{◌≡◌, ◌∷◌, [], ℕ, not, cond, List, length}
-use Rattle.std.proofs.Common.{refl, subst, codes, Option, Some, None, Ok}
-use Rattle.std.specs.Prelude.{IfSome, IsTrue, nat_lt}
+use Rattle.std.proofs.Common.{refl, subst, codes, Option, Some, None, Result, Ok, Err}
+use Rattle.std.specs.Prelude.{IfOk, IfSome, IsTrue, nat_lt}
 use Rattle.std.proofs.lemmas.Bool.{cond_both, not-false}
 use Rattle.url.specs.Parts.{Parts}
 use Rattle.value_headers.specs.declared.headers.Header.{Header}
@@ -10,6 +10,7 @@ use Rattle.value_lemmas.proofs.Lists.{AllByRecursion-append}
 use Rattle.value_origins.specs.Origins.{serialized}
 use Rattle.value_requests.specs.declared.client.Client.{Client}
 use Rattle.value_requests.specs.declared.fault.TypeFault.{TypeFault}
+use Rattle.value_requests.specs.declared.fault.TypeFault.TheVariants.{LongUrl}
 use Rattle.value_requests.specs.declared.init.Init.{Init}
 use Rattle.value_requests.specs.declared.init.LoadInit.{LoadInit}
 use Rattle.value_requests.specs.declared.init.Pair.{Pair}
@@ -24,7 +25,8 @@ use Rattle.policy_safelist.specs.declared.guard.Guard.{Guard}
 use Rattle.policy_safelist.specs.Guards.{allows, list_after, outcome}
 use Rattle.fetch_requests.specs.Loading.{load_for, made_load}
 use Rattle.fetch_requests.specs.Making.{accept_value, fault_or, faults, filled, first_fault, guard_of, header_list, made}
-use Rattle.fetch_requests.specs.Making.{most_url_text, request_for, unless_there, url_given, with_body_type}
+use Rattle.fetch_requests.specs.Making.{most_url_text, or_bad_url, request_for, unless_there, url_given}
+use Rattle.fetch_requests.specs.Making.{with_body_type}
 use Rattle.fetch_requests.proofs.RequestLemmas.{made-valid}
 use Rattle.script_scenarios.specs.declared.document.Document.{Document}
 use Rattle.script_runs.specs.Runs.{document_client}
@@ -115,17 +117,23 @@ list-named init =
 abbrev pub IsWordAt : Request → Type 0
 IsWordAt request = IsTrue (is_http_url (current_url request)) → IsWordRequest request
 
-given-where : (client : Client) (text : List ℕ) → IsWordClient client → IfSome (url_given client text) IsWordWhere
+or-bad : (url : Option Parts) → IfSome url IsWordWhere → IfOk (or_bad_url url) IsWordWhere
+or-bad None is = tt
+or-bad (Some url) is = is
+
+given-where : (client : Client) (text : List ℕ) → IsWordClient client → IfOk (url_given client text) IsWordWhere
 given-where client text is =
-    cond_both (nat_lt most_url_text (length text)) None (unless_long (url_against client.url text))
-    (λ url. IfSome url IsWordWhere) (λ _. tt)
-    (λ _. unless-where (url_against client.url text) (text-where (Some client.url) (utf8_text text) (is.url, is.http)))
+    let url : Option Parts = unless_long (url_against client.url text) in
+    cond_both (nat_lt most_url_text (length text)) (Err LongUrl) (or_bad_url url)
+    (λ given. IfOk given IsWordWhere) (λ _. tt)
+    (λ _. or-bad url
+    (unless-where (url_against client.url text) (text-where (Some client.url) (utf8_text text) (is.url, is.http))))
 
 module _ (client : Client) (is : IsWordClient client) where
-  fetch-made : (init : Init) (url : Option Parts) (request : Request) → IfSome url IsWordWhere
+  fetch-made : (init : Init) (url : Result Parts TypeFault) (request : Request) → IfOk url IsWordWhere
       → request_for client init url ≡ Ok request → IsWordAt request
-  fetch-made init None request given read = absurd (cc)
-  fetch-made init (Some url) request given read =
+  fetch-made init (Err fault) request given read = absurd (cc)
+  fetch-made init (Ok url) request given read =
       by (first_fault (faults init url)) refl read
     where
       by : (fault : Option TypeFault) → first_fault (faults init url) ≡ fault
@@ -142,10 +150,10 @@ module _ (client : Client) (is : IsWordClient client) where
             origin = is.origin;
           })
 
-  load-made : (init : LoadInit) (url : Option Parts) (request : Request) → IfSome url IsWordWhere
+  load-made : (init : LoadInit) (url : Result Parts TypeFault) (request : Request) → IfOk url IsWordWhere
       → load_for client init url ≡ Ok request → IsWordAt request
-  load-made init None request given read = absurd (cc)
-  load-made init (Some url) request given read =
+  load-made init (Err fault) request given read = absurd (cc)
+  load-made init (Ok url) request given read =
       let whole : made_load client init url ≡ request = cc in
       subst IsWordAt whole (λ http. record {
         method = refl;

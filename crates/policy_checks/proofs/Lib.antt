@@ -1,3 +1,2 @@
 mod StripLemmas
-pub mod Computed
 pub mod NameLemmas

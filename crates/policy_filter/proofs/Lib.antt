@@ -1,4 +1,3 @@
-pub mod Computed
 pub mod CollectingLemmas
 pub mod ExposureLemmas
 pub mod KeepingLemmas

@@ -1,4 +1,3 @@
-pub mod Computed
 pub mod ViewLemmas
 pub mod LessonLemmas
 pub mod OriginLemmas

@@ -1,4 +1,3 @@
-pub mod Computed
 pub mod ForbiddenLemmas
 pub mod RangeLemmas
 pub mod SetLemmas

@@ -1,23 +1,22 @@
 -- Connections served one after the other: their ends, their lines, and what they come to together.
 use Rattle.std.proofs.Common.{◌≡◌, ℕ, ◌+◌, ◌≤◌, ◌<◌, List, [], ◌∷◌, ◌++◌, map, refl, ap, sym, ◌∙◌, subst, arith, ◌≢◌}
-use Rattle.std.proofs.Common.{inl, inr}
+use Rattle.std.proofs.Common.{take}
 use Rattle.std.specs.Prelude.{option_map}
 use Rattle.std.proofs.Common.{Option, Some, None, append_assoc, length-append}
 use Rattle.std.proofs.lemmas.List.{append-nil, map-append}
 use Rattle.std.proofs.lemmas.List.Concat.{flat_map-append}
 use Rattle.value_lemmas.proofs.Lists.{AllByRecursion-append}
-use Rattle.link_traits.proofs.SinkLemmas.{part-after, took-again, took-nothing}
-use Rattle.link_traits.specs.Counts.{Rose}
+use Rattle.link_traits.proofs.SinkLemmas.{failed-later, quiet-later, took-again, took-nothing}
+use Rattle.link_traits.specs.Counts.{one_more}
 use Rattle.link_traits.specs.Accepts.{GaveFirst}
 use Rattle.link_traits.specs.Links.{Lendings, one_out, TookBack}
-use Rattle.link_traits.specs.Sinks.{SinkTold, Took, TookPart}
-use Rattle.program_shell.specs.Sinks.{Failed}
+use Rattle.link_traits.specs.Sinks.{SinkTold, Took}
 use Rattle.server_tables.specs.Serving.{PeerTold}
 use Rattle.server_tables.specs.declared.serving.Served.{Served}
 use Rattle.server_tables.specs.declared.serving.Served.TheVariants as served
 use Rattle.server_tables.specs.declared.table.Row.{Row}
 use Rattle.program_corsserve.specs.Connections.{AcceptsTold, Connection, GaveEnds, HasLine, HasServed, HasServedAll}
-use Rattle.program_corsserve.specs.Connections.{IsServedBy, line_of, lines_of, Serves, TookEnds}
+use Rattle.program_corsserve.specs.Connections.{HasServedLast, IsServedBy, line_of, lines_of, Serves, TookEnds}
 use Rattle.program_corsserve.specs.Private.Nexts.{HasServedNext}
 use Rattle.program_corsserve.specs.Private.Notes.{IsNoted, IsWritten}
 use Rattle.program_shell.specs.declared.status.Status.{Status}
@@ -65,10 +64,6 @@ module _ {End : Type 0} where
       let is = subst (λ (o : Option (Lendings End)). TookBack o c back) out took in
       is (omega (arith)) ∙ ap (λ (n : ℕ). let told : Option (Lendings End) =
       Some (record { back = old.back ++ back ∷ []; out = n }) in told) (omega (arith))
-
--- a count that rose after it had not fallen
-rose-after : (before now later : ℕ) → before ≤ now → Rose now later → Rose before later
-rose-after before now later grown rose = omega (arith, grown, rose)
 
 -- ---- what was served
 
@@ -129,6 +124,16 @@ module _ {End : Type 0} (told : End → PeerTold) (table : List Row) where
       → Serves told table 1 a c k l verdict
   noted-one a c k l one verdict done quiet noted = by one.served verdict refl noted
     where
+      last : HasServedLast told table 1 a c
+      last = record {
+        before = [];
+        last = one;
+        fewer = omega (arith);
+        served = done;
+        lines = tt;
+        quiet = quiet;
+      }
+
       wrote : (served : Served) (verdict : Status BadLine) → one.served ≡ served → HasLine served
           → IsWritten k l served verdict → Serves told table 1 a c k l verdict
       wrote served status.Ok is line w = record {
@@ -138,14 +143,13 @@ module _ {End : Type 0} (told : End → PeerTold) (table : List Row) where
         lines = (subst HasLine (sym is) line, tt);
         took = subst (Took k.taken l.taken) (sym (line-one one ∙ ap line_of is)) w.took;
         quiet = quiet;
-        faults = w.faults;
-        zeros = w.zeros;
+        whole = w.whole;
       }
       wrote served status.WriteFault is line w = record {
-        connections = one ∷ [];
-        few = omega (arith);
-        served = done;
-        took = subst (TookPart k.taken l.taken) (sym (line-one one ∙ ap line_of is)) w.took;
+        all = last;
+        line = subst HasLine (sym is) line;
+        part = w.took.0;
+        took = subst (λ (s : Served). Took k.taken l.taken (take w.took.0 (line_of s))) (sym is) w.took.1;
         failed = w.failed;
       }
       wrote served status.Usage is line w = w
@@ -158,11 +162,10 @@ module _ {End : Type 0} (told : End → PeerTold) (table : List Row) where
       short : (verdict : Status BadLine) → one.served ≡ served.OutOfMemory → verdict ≡ status.OutOfMemory → l ≡ k
           → Serves told table 1 a c k l verdict
       short verdict is same kept = subst (Serves told table 1 a c k l) (sym same) (record {
-        connections = one ∷ [];
-        few = omega (arith);
-        served = done;
-        took = subst (Took k.taken l.taken) (sym (line-one one ∙ ap line_of is))
-            (subst (λ (o : SinkTold). Took k.taken o.taken []) (sym kept) (took-nothing k.taken));
+        all = last;
+        refused = is;
+        took = subst (λ (o : SinkTold). Took k.taken o.taken []) (sym kept) (took-nothing k.taken);
+        whole = (ap (λ (o : SinkTold). o.faults) kept, ap (λ (o : SinkTold). o.zeros) kept);
       })
 
       by : (served : Served) (verdict : Status BadLine) → one.served ≡ served → IsNoted k l served verdict
@@ -183,8 +186,7 @@ module _ {End : Type 0} (told : End → PeerTold) (table : List Row) where
     lines = tt;
     took = took-nothing k.taken;
     quiet = refl;
-    faults = omega (arith);
-    zeros = omega (arith);
+    whole = (refl, refl);
   }
 
   module _ (n count : ℕ) (a b c : AcceptsTold End) (k l m : SinkTold) (before : HasServedAll told table n a b k l) where
@@ -197,45 +199,55 @@ module _ {End : Type 0} (told : End → PeerTold) (table : List Row) where
       took = took-again k.taken l.taken m.taken (lines_of before.connections) (lines_of one.connections) _ before.took
           one.took (lines-both before.connections one.connections);
       quiet = one.quiet ∙ before.quiet;
-      faults = omega (arith, before.faults, one.faults);
-      zeros = omega (arith, before.zeros, one.zeros);
+      whole = quiet-later k l m before.whole one.whole;
     }
 
-    failed-after : Failed l m → Failed k m
-    failed-after failed = elim failed [
-      | inl rose ↦ inl (rose-after k.faults l.faults m.faults before.faults rose)
-      | inr rose ↦ inr (rose-after k.zeros l.zeros m.zeros before.zeros rose)
-    ]
+    last-after : n < count → HasServedLast told table 1 b c → HasServedLast told table count a c
+    last-after below one = record {
+      before = before.connections ++ one.before;
+      last = one.last;
+      fewer = omega (arith, below, length-append before.connections one.before, before.all, one.fewer);
+      served = subst (HasServed told table a c) (sym (append_assoc before.connections one.before (one.last ∷ [])))
+          (served-both a b c before.connections (one.before ++ one.last ∷ []) before.served one.served);
+      lines = AllByRecursion-append (λ k. HasLine k.served) before.connections one.before before.lines one.lines;
+      quiet = one.quiet ∙ before.quiet;
+    }
 
     -- what the next connection comes to, after those before it
     pub one-after : (verdict : Status BadLine) → n < count → Serves told table 1 b c l m verdict → verdict ≢ status.Ok
         → Serves told table count a c k m verdict
+    unfolding last-after
     one-after status.Ok below one other = absurd (other refl)
     one-after status.Usage below one other = one
     one-after (status.Refused line) below one other = one
     one-after status.ReadFault below one other = one
     one-after status.InputTooLong below one other = one
-    one-after status.WriteFault below one other = record {
-      connections = before.connections ++ one.connections;
-      few = omega (arith, below, length-append before.connections one.connections, before.all, one.few);
-      served = served-both a b c before.connections one.connections before.served one.served;
-      took = rw (lines-both before.connections one.connections)
-          (part-after k.taken l.taken m.taken (lines_of before.connections) (lines_of one.connections) before.took
-          one.took);
-      failed = failed-after one.failed;
-    }
+    one-after status.WriteFault below one other =
+        let part : List ℕ = take one.part (line_of one.all.last.served) in
+        record {
+          all = last-after below one.all;
+          line = one.line;
+          part = one.part;
+          took = took-again k.taken l.taken m.taken (lines_of before.connections) (lines_of one.all.before ++ part) _
+              before.took one.took
+              (ap (λ (t : List ℕ). t ++ part) (lines-both before.connections one.all.before)
+              ∙ append_assoc (lines_of before.connections) (lines_of one.all.before) part);
+          failed = failed-later k l m before.whole one.failed;
+        }
     one-after status.OutOfMemory below one other = record {
-      connections = before.connections ++ one.connections;
-      few = omega (arith, below, length-append before.connections one.connections, before.all, one.few);
-      served = served-both a b c before.connections one.connections before.served one.served;
-      took = took-again k.taken l.taken m.taken (lines_of before.connections) (lines_of one.connections) _ before.took
-          one.took (lines-both before.connections one.connections);
+      all = last-after below one.all;
+      refused = one.refused;
+      took = took-again k.taken l.taken m.taken (lines_of before.connections) (lines_of one.all.before) _ before.took
+          one.took (lines-both before.connections one.all.before);
+      whole = quiet-later k l m before.whole one.whole;
     }
     one-after status.OwnFault below one other = record {
       connections = before.connections ++ one.connections;
       few = omega (arith, below, length-append before.connections one.connections, before.all, one.few);
       served = served-both a b c before.connections one.connections before.served one.served;
+      lines = AllByRecursion-append (λ k. HasLine k.served) before.connections one.connections before.lines one.lines;
       took = took-again k.taken l.taken m.taken (lines_of before.connections) (lines_of one.connections) _ before.took
           one.took (lines-both before.connections one.connections);
-      cause = subst (λ (f : ℕ). Rose f c.faults) before.quiet one.cause;
+      whole = quiet-later k l m before.whole one.whole;
+      cause = one.cause ∙ ap one_more before.quiet;
     }

@@ -1,9 +1,9 @@
 -- What the program's account of its answer says of each status.
 use Rattle.std.proofs.Common.{◌≡◌, ◌≢◌, false, ℕ, ◌⊎◌, inl, inr, List, [], Option, Some, None, refl, sym, subst, ◌∙◌}
-use Rattle.std.proofs.Common.{arith}
+use Rattle.std.proofs.Common.{ap, arith}
 use Rattle.link_traits.proofs.SourceLemmas.{gave-nothing}
-use Rattle.link_traits.specs.Counts.{Rose}
-use Rattle.link_traits.specs.Sinks.{SinkTold}
+use Rattle.link_traits.specs.Counts.{one_more}
+use Rattle.link_traits.specs.Sinks.{FailedOnce, SinkTold}
 use Rattle.link_traits.specs.Sources.{Gave, SourceTold}
 use Rattle.program_shell.proofs.ProgramLemmas.{Ends, answer-by, answer-or, answer-told, answer-verdict, answer-write}
 use Rattle.program_shell.proofs.ProgramLemmas.{cannot-failed}
@@ -11,7 +11,6 @@ use Rattle.program_shell.proofs.ProgramLemmas.{done-read, done-usage, done-write
 use Rattle.program_shell.specs.Complaints.{IsAnswer}
 use Rattle.program_shell.specs.Inputs.{Reads, Refuses}
 use Rattle.program_shell.specs.Program.{IsExcused}
-use Rattle.program_shell.specs.Sinks.{Failed}
 use Rattle.program_shell.specs.declared.status.Status.{Status}
 use Rattle.program_shell.specs.declared.status.Status.TheVariants as status
 use Rattle.server_tables.specs.Reading.{table_of}
@@ -44,7 +43,7 @@ module _ {End : Type 0} (told : End → PeerTold) (input input' : SourceTold) (a
   serves-ends table task mid status.WriteFault quiet s = s.failed
   serves-ends table task mid status.OutOfMemory quiet s = tt
   serves-ends table task mid status.OwnFault quiet s =
-      inr (refl, subst (λ (n : ℕ). Rose n accepts'.faults) quiet s.cause)
+      inr (refl, s.cause ∙ ap one_more quiet)
   serves-ends table task mid status.Usage quiet s = s
   serves-ends table task mid (status.Refused bad) quiet s = absurd s
   serves-ends table task mid status.ReadFault quiet s = s
@@ -64,7 +63,7 @@ module _ {End : Type 0} (told : End → PeerTold) (input input' : SourceTold) (a
   refused-words (Some task) unread untouched = record {
     bytes = [];
     gave = subst (λ (s : SourceTold). Gave input.left s.left []) (sym unread) (gave-nothing input.left);
-    cause = inl (omega arith, untouched);
+    cause = inl ((omega arith, ap (λ (s : SourceTold). s.faults) unread), untouched);
   }
 
   -- ---- the verdict
@@ -75,19 +74,19 @@ module _ {End : Type 0} (told : End → PeerTold) (input input' : SourceTold) (a
       (Served task) (is-reading table_of) (Finishes accepts accepts') input input' output output' (served-ends task)
       verdict)
 
-  read-rose : (task : Option Task) → Verdict task status.ReadFault → Rose input.faults input'.faults
+  read-rose : (task : Option Task) → Verdict task status.ReadFault → input'.faults ≡ one_more input.faults
   read-rose None verdict = elim verdict.0 [ inl x ↦ cc (x) | inr x ↦ cc (x) ]
   read-rose (Some task) verdict = done-read most_input (Reads table_of) (Refuses table_of) Untouched
       (Served task) (is-reading table_of) (Finishes accepts accepts') input input' output output' (served-ends task)
       verdict
 
-  write-failed : (task : Option Task) → Verdict task status.WriteFault → Failed output output'
+  write-failed : (task : Option Task) → Verdict task status.WriteFault → FailedOnce output output'
   write-failed None verdict = elim verdict.0 [ inl x ↦ cc (x) | inr x ↦ cc (x) ]
   write-failed (Some task) verdict = done-write most_input (Reads table_of) (Refuses table_of) Untouched
       (Served task) (is-reading table_of) (Finishes accepts accepts') input input' output output' (served-ends task)
       verdict
 
-  accept-rose : (task : Option Task) → Verdict task status.OwnFault → Rose accepts.faults accepts'.faults
+  accept-rose : (task : Option Task) → Verdict task status.OwnFault → accepts'.faults ≡ one_more accepts.faults
   accept-rose None verdict = elim verdict.0 [ inl x ↦ cc (x) | inr x ↦ cc (x) ]
   accept-rose (Some task) verdict = elim verdict.cause [
     | inl stopped ↦ absurd stopped.0
@@ -124,7 +123,7 @@ module _ {End : Type 0} (told : End → PeerTold) (input input' : SourceTold) (a
         (answer-by a (λ v is. subst (λ (t : Option Task). Verdict t v) some is));
     read_fault = λ is. read-rose (task_of words) (at is (λ e. cc (e)));
     accept_fault = λ is. accept-rose (task_of words) (at is (λ e. cc (e)));
-    write_fault = answer-write a (Failed output output') (write-failed (task_of words));
+    write_fault = answer-write a (FailedOnce output output') (write-failed (task_of words));
     told_whole = answer-told a;
   }
     where

@@ -1,11 +1,10 @@
 -- Connections that were served, one after the other, and what was written of each.
-use Rattle.std.specs.Prelude.{◌≡◌, ℕ, ◌≤◌, ◌<◌, List, [], ◌++◌, length, map, codes, decimal, Option, Some, None}
+use Rattle.std.specs.Prelude.{◌≡◌, ℕ, ◌<◌, List, [], ◌∷◌, ◌++◌, length, map, take, codes, decimal, Option, Some, None}
 use Rattle.std.specs.List.{AllByRecursion, flat_map}
 use Rattle.value_text.specs.Texts.{Text}
-use Rattle.link_traits.specs.Counts.{Rose}
+use Rattle.link_traits.specs.Counts.{one_more}
 use Rattle.link_traits.specs.Links.{Lendings}
-use Rattle.link_traits.specs.Sinks.{SinkTold, Took, TookPart}
-use Rattle.program_shell.specs.Sinks.{Failed}
+use Rattle.link_traits.specs.Sinks.{FailedOnce, NeverFailed, SinkTold, Took}
 use Rattle.program_shell.specs.Statuses.{line}
 use Rattle.server_tables.specs.Serving.{IsServing, PeerTold}
 use Rattle.server_tables.specs.declared.serving.Served.{Served}
@@ -92,36 +91,46 @@ module _ {End : Type 0} (told : End → PeerTold) where
     pub lines : AllByRecursion (λ connection. HasLine connection.served) connections
     pub took : Took output.taken output'.taken (lines_of connections)
     pub quiet : new.faults ≡ old.faults
-    pub faults : output.faults ≤ output'.faults
-    pub zeros : output.zeros ≤ output'.zeros
+    pub whole : NeverFailed output output'
 
-  -- No more connections than that were served; the lines of them were written, but for a part of what was still to be
-  -- written as the output failed.
+  -- Fewer connections than that were served, each with its line, and then one more, which was the last.
+  pub record HasServedLast (table : List Row) (count : ℕ) (old new : AcceptsTold End) : Type 0 where
+    pub before : List (Connection End)
+    pub last : Connection End
+    pub fewer : length before < count
+    pub served : HasServed table old new (before ++ last ∷ [])
+    pub lines : AllByRecursion (λ connection. HasLine connection.served) before
+    pub quiet : new.faults ≡ old.faults
+
+  -- The output failed as the line of the last connection was written: it has taken the lines of those before it, and a
+  -- part of that one.
   pub record WasCutShort (table : List Row) (count : ℕ) (old new : AcceptsTold End) (output output' : SinkTold)
       : Type 0 where
-    pub connections : List (Connection End)
-    pub few : length connections ≤ count
-    pub served : HasServed table old new connections
-    pub took : TookPart output.taken output'.taken (lines_of connections)
-    pub failed : Failed output output'
+    pub all : HasServedLast table count old new
+    pub line : HasLine all.last.served
+    pub part : ℕ
+    pub took : Took output.taken output'.taken (lines_of all.before ++ take part (line_of all.last.served))
+    pub failed : FailedOnce output output'
 
-  -- Memory was refused. No more connections than that were served, and the lines of them were written; one that was
-  -- refused memory has none.
+  -- Memory was refused as the last connection was served: it has no line, and the lines of those before it were
+  -- written.
   pub record RanShort (table : List Row) (count : ℕ) (old new : AcceptsTold End) (output output' : SinkTold)
       : Type 0 where
-    pub connections : List (Connection End)
-    pub few : length connections ≤ count
-    pub served : HasServed table old new connections
-    pub took : Took output.taken output'.taken (lines_of connections)
+    pub all : HasServedLast table count old new
+    pub refused : all.last.served ≡ served.OutOfMemory
+    pub took : Took output.taken output'.taken (lines_of all.before)
+    pub whole : NeverFailed output output'
 
-  -- There was no next connection.
+  -- There was no next connection, after fewer than that, each with its line.
   pub record HadNoNext (table : List Row) (count : ℕ) (old new : AcceptsTold End) (output output' : SinkTold)
       : Type 0 where
     pub connections : List (Connection End)
     pub few : length connections < count
     pub served : HasServed table old new connections
+    pub lines : AllByRecursion (λ connection. HasLine connection.served) connections
     pub took : Took output.taken output'.taken (lines_of connections)
-    pub cause : Rose old.faults new.faults
+    pub whole : NeverFailed output output'
+    pub cause : new.faults ≡ one_more old.faults
 
   -- what serving so many connections comes to
   abbrev pub Serves : List Row → ℕ → AcceptsTold End → AcceptsTold End → SinkTold → SinkTold → Status BadLine → Type 0

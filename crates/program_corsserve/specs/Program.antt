@@ -4,13 +4,12 @@
 use Rattle.std.specs.Prelude.{◌≡◌, ◌≢◌, false, ℕ, ◌⊎◌, List, Option, Some, None}
 use Rattle.value_text.specs.Texts.{Text}
 use Rattle.link_traits.specs.Accepts.{Opened}
-use Rattle.link_traits.specs.Counts.{Rose}
-use Rattle.link_traits.specs.Sinks.{SinkTold}
+use Rattle.link_traits.specs.Counts.{one_more}
+use Rattle.link_traits.specs.Sinks.{FailedOnce, SinkTold}
 use Rattle.link_traits.specs.Sources.{SourceTold}
 use Rattle.program_shell.specs.Complaints.{HasComplained, IsAnswer}
 use Rattle.program_shell.specs.Inputs.{Reads, Refuses}
 use Rattle.program_shell.specs.Program.{AnswersInput, IsDone as IsDoneWith, IsExcused}
-use Rattle.program_shell.specs.Sinks.{Failed}
 use Rattle.program_shell.specs.declared.status.Status.{Status}
 use Rattle.program_shell.specs.declared.status.Status.TheVariants as status
 use Rattle.server_tables.specs.Reading.{table_of}
@@ -41,7 +40,7 @@ module _ {End : Type 0} (told : End → PeerTold) where
   pub record CannotListen (old new : AcceptsTold End) (output output' : SinkTold)
       (verdict : Status BadLine) : Type 0 where
     pub verdict_is : verdict ≡ status.OwnFault
-    pub cause : Rose old.faults new.faults
+    pub cause : new.faults ≡ one_more old.faults
     pub opened_is : new.opened ≡ old.opened
     pub coming_is : new.coming ≡ old.coming
     pub lent_is : new.lent ≡ old.lent
@@ -88,7 +87,7 @@ module _ {End : Type 0} (told : End → PeerTold) where
 -- all connections were served, or what accepts them failed
 abbrev pub Finishes : {End : Type 0} → AcceptsTold End → AcceptsTold End → Status BadLine → Type 0
 Finishes accepts accepts' answer =
-    (answer ≡ status.Ok) ⊎ ((answer ≡ status.OwnFault) × Rose accepts.faults accepts'.faults)
+    (answer ≡ status.Ok) ⊎ ((answer ≡ status.OwnFault) × (accepts'.faults ≡ one_more accepts.faults))
 
 -- What the program promises of its answer. The first field says all; the others are what it says of each status.
 pub record Answers {End : Type 0} (told : End → PeerTold) (words : List Text) (input input' : SourceTold)
@@ -102,15 +101,15 @@ pub record Answers {End : Type 0} (told : End → PeerTold) (words : List Text) 
       → (answer ≡ status.Usage) ⊎ IsExcused output output' complaints complaints' answer
   -- a word that is empty or begins with `-` is refused first, also where memory would be refused
   pub first : are_texts words ≡ false
-      → (answer ≡ status.Usage) ⊎ ((answer ≡ status.WriteFault) × Failed complaints complaints')
+      → (answer ≡ status.Usage) ⊎ ((answer ≡ status.WriteFault) × FailedOnce complaints complaints')
   -- what accepted words ask for: the input is read as a table, by which so many connections are served
   pub accepted : (task : Task) → task_of words ≡ Some task
       → AnswersInput most_input (Reads table_of) (Refuses table_of) (IsUntouched told accepts accepts' output output')
       (λ table. IsServed told table task accepts accepts' output output') (Finishes accepts accepts') input input'
       output output' complaints complaints' answer
-  -- faults of the input, of the connections and of what is written only where a count rose
-  pub read_fault : answer ≡ status.ReadFault → Rose input.faults input'.faults
-  pub accept_fault : answer ≡ status.OwnFault → Rose accepts.faults accepts'.faults
-  pub write_fault : answer ≡ status.WriteFault → Failed output output' ⊎ Failed complaints complaints'
+  -- faults of the input, of the connections and of what is written only where a count rose by one
+  pub read_fault : answer ≡ status.ReadFault → input'.faults ≡ one_more input.faults
+  pub accept_fault : answer ≡ status.OwnFault → accepts'.faults ≡ one_more accepts.faults
+  pub write_fault : answer ≡ status.WriteFault → FailedOnce output output' ⊎ FailedOnce complaints complaints'
   -- another answer than WriteFault is told by its whole line, and Ok by none
   pub told_whole : answer ≢ status.WriteFault → HasComplained (complaint answer) complaints complaints'

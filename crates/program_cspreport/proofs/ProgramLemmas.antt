@@ -3,7 +3,7 @@ use Rattle.std.proofs.Common.{◌≡◌, ◌≢◌, ℕ, ◌⊎◌, Bool, true, 
 use Rattle.std.proofs.Common.{Result, Ok, Err, refl, ap, sym, subst, ◌∙◌}
 use Rattle.std.specs.Prelude.{suc}
 use Rattle.book_calls.specs.declared.entry.Entry.{Entry}
-use Rattle.link_traits.specs.Sinks.{SinkTold}
+use Rattle.link_traits.specs.Sinks.{FailedOnce, SinkTold}
 use Rattle.link_traits.specs.Sources.{SourceTold}
 use Rattle.play_text.specs.declared.failure.Failure.{Failure}
 use Rattle.play_text.specs.declared.failure.Failure.TheVariants as failure
@@ -13,7 +13,6 @@ use Rattle.program_shell.proofs.ProgramLemmas.{played-usage, played-write, text-
 use Rattle.program_shell.specs.Complaints.{IsAnswer}
 use Rattle.program_shell.specs.Inputs.{IsRead, Reads, Refuses}
 use Rattle.program_shell.specs.Program.{IsPlayed, IsWritten}
-use Rattle.program_shell.specs.Sinks.{Failed}
 use Rattle.program_shell.specs.declared.status.Status.{Status}
 use Rattle.program_shell.specs.declared.status.Status.TheVariants as status
 use Rattle.report_delivery.specs.declared.delivery.Delivered.{Delivered}
@@ -46,13 +45,14 @@ many-reported scenario transcripts delivereds history play = many-each play.docu
 text-written : (IsText : List ℕ → Type 0) (text : List ℕ) (output output' : SinkTold)
     (written : Result (Unit {0}) Failure) → IsText text → Writes output output' text written
     → IsWritten IsText output output' (written_status written)
-text-written IsText text output output' (Ok _) is w = record { text = text; is_text = is; took = w.ok }
+text-written IsText text output output' (Ok _) is w =
+    record { text = text; is_text = is; took = w.ok; quiet = (w.faults, w.zeros) }
 text-written IsText text output output' (Err failure.OutOfMemory) is w =
-    record { text = text; is_text = is; took = w.err }
+    (record { text = text; is_text = is; took = w.err }, (w.faults, w.zeros))
 text-written IsText text output output' (Err failure.Fault) is w =
-    (record { text = text; is_text = is; took = w.err }, inl (w.fault refl))
+    (record { text = text; is_text = is; took = w.err }, inl (w.faults, w.zeros))
 text-written IsText text output output' (Err failure.TookNothing) is w =
-    (record { text = text; is_text = is; took = w.err }, inr (w.nothing refl))
+    (record { text = text; is_text = is; took = w.err }, inr (w.faults, w.zeros))
 
 -- the scenario was played, and the text of its reports written
 pub reports-played : (input input' : SourceTold) (output output' : SinkTold) (scenario : Scenario)
@@ -86,7 +86,7 @@ module _ (input input' : SourceTold) (output output' : SinkTold) where
   not_accepted-of true v =
       absurd (played-usage most_input reported_scenario IsReportText input input' output output' v)
 
-  write-of : (accepted : Bool) → Verdict accepted status.WriteFault → Failed output output'
+  write-of : (accepted : Bool) → Verdict accepted status.WriteFault → FailedOnce output output'
   write-of false v = cc (v.0)
   write-of true v = played-write most_input reported_scenario IsReportText input input' output output' v
 
@@ -98,10 +98,10 @@ module _ (input input' : SourceTold) (output output' : SinkTold) where
     is_answer = a;
     usage = λ is. not_accepted-of (are_accepted words)
         (subst (Verdict (are_accepted words)) is (answer-verdict a (λ e. cc (is, e))));
-    not_accepted = λ no_words. answer-or a (λ v. (v ≡ status.Usage) ⊎ ((v ≡ status.WriteFault) × Failed c c'))
+    not_accepted = λ no_words. answer-or a (λ v. (v ≡ status.Usage) ⊎ ((v ≡ status.WriteFault) × FailedOnce c c'))
         (λ v is. inl (subst (λ (b : Bool). Verdict b v) no_words is).0) (λ failed. inr failed);
     play = λ accepted. text-answers most_input reported_scenario IsReportText input input' output output'
         (answer-by a (λ v is. subst (λ (b : Bool). Verdict b v) accepted is));
-    write_fault = answer-write a (Failed output output') (write-of (are_accepted words));
+    write_fault = answer-write a (FailedOnce output output') (write-of (are_accepted words));
     complained = answer-told a;
   }

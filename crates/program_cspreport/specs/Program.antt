@@ -2,11 +2,10 @@
 -- it comes to a verdict on an input, and what it has written then, program_shell's definitions say.
 use Rattle.std.specs.Prelude.{◌≡◌, ◌≢◌, ℕ, ◌⊎◌, Bool, true, false, List}
 use Rattle.value_text.specs.Texts.{Text}
-use Rattle.link_traits.specs.Sinks.{SinkTold}
+use Rattle.link_traits.specs.Sinks.{FailedOnce, SinkTold}
 use Rattle.link_traits.specs.Sources.{SourceTold}
 use Rattle.program_shell.specs.Complaints.{HasComplained, IsAnswer}
 use Rattle.program_shell.specs.Program.{AnswersText, IsPlayed}
-use Rattle.program_shell.specs.Sinks.{Failed}
 use Rattle.program_shell.specs.declared.status.Status.{Status}
 use Rattle.program_shell.specs.declared.status.Status.TheVariants as status
 use Rattle.program_cspreport.specs.Scenarios.{reported_scenario}
@@ -35,11 +34,11 @@ pub record Answers (words : List Text) (input input' : SourceTold)
   -- Usage only where the words are not accepted, and there always, unless the complaints failed
   pub usage : answer ≡ status.Usage → are_accepted words ≡ false
   pub not_accepted : are_accepted words ≡ false
-      → (answer ≡ status.Usage) ⊎ ((answer ≡ status.WriteFault) × Failed complaints complaints')
+      → (answer ≡ status.Usage) ⊎ ((answer ≡ status.WriteFault) × FailedOnce complaints complaints')
   -- accepted words, by the scenario that the input is and by the texts of the reports of its plays
   pub play : are_accepted words ≡ true → AnswersText most_input reported_scenario IsReportText input input' output
       output' complaints complaints' answer
   -- WriteFault only where a sink failed or took nothing
-  pub write_fault : answer ≡ status.WriteFault → Failed output output' ⊎ Failed complaints complaints'
+  pub write_fault : answer ≡ status.WriteFault → FailedOnce output output' ⊎ FailedOnce complaints complaints'
   -- another answer is told by its whole line, and Ok by none
   pub complained : answer ≢ status.WriteFault → HasComplained (complaint answer) complaints complaints'

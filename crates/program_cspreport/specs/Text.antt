@@ -8,7 +8,7 @@ use Rattle.report_delivery.specs.declared.delivery.DeliveredEnd.TheVariants.{Fin
 use Rattle.report_play.specs.Plays.{IsReportedPlay}
 use Rattle.script_events.specs.declared.events.Event.{Event}
 use Rattle.script_events.specs.declared.events.Transcript.{Transcript}
-use Rattle.script_events.specs.Lines.{event_text, line}
+use Rattle.script_lines.specs.Lines.{event_text, line}
 use Rattle.script_filling.specs.Results.{is_result}
 use Rattle.script_scenarios.specs.declared.scenario.Scenario.{Scenario}
 

@@ -3,7 +3,7 @@ use Rattle.std.proofs.Common.{◌≡◌, ◌≢◌, ℕ, ◌⊎◌, inl, inr, Li
 use Rattle.std.proofs.Common.{subst, ◌∙◌}
 use Rattle.book_calls.specs.declared.entry.Entry.{Entry}
 use Rattle.link_traits.specs.Links.{LinkTold}
-use Rattle.link_traits.specs.Sinks.{SinkTold}
+use Rattle.link_traits.specs.Sinks.{FailedOnce, SinkTold}
 use Rattle.link_traits.specs.Sources.{SourceTold}
 use Rattle.fetch_wire.specs.Exchanges.{Answering}
 use Rattle.play_seats.specs.Makers.{HasTakenBack}
@@ -18,7 +18,6 @@ use Rattle.program_shell.proofs.ProgramLemmas.{played-write, text-answers, writt
 use Rattle.program_shell.specs.Complaints.{IsAnswer}
 use Rattle.program_shell.specs.Inputs.{Reads, Refuses}
 use Rattle.program_shell.specs.Program.{IsExcused, IsWritten}
-use Rattle.program_shell.specs.Sinks.{Failed}
 use Rattle.program_shell.specs.declared.status.Status.{Status}
 use Rattle.program_shell.specs.declared.status.Status.TheVariants as status
 use Rattle.script_reading.specs.Scenarios.{scenario_of}
@@ -40,13 +39,14 @@ use Rattle.program_fetchplay.specs.declared.words.Subcommand.TheVariants.{Gen, N
 pub text-written : (IsText : List ℕ → Type 0) (text : List ℕ) (output output' : SinkTold)
     (written : Result (Unit {0}) Failure) → IsText text → Writes output output' text written
     → IsWritten IsText output output' (written_status written)
-text-written IsText text output output' (Ok _) is w = record { text = text; is_text = is; took = w.ok }
+text-written IsText text output output' (Ok _) is w =
+    record { text = text; is_text = is; took = w.ok; quiet = (w.faults, w.zeros) }
 text-written IsText text output output' (Err failure.OutOfMemory) is w =
-    record { text = text; is_text = is; took = w.err }
+    (record { text = text; is_text = is; took = w.err }, (w.faults, w.zeros))
 text-written IsText text output output' (Err failure.Fault) is w =
-    (record { text = text; is_text = is; took = w.err }, inl (w.fault refl))
+    (record { text = text; is_text = is; took = w.err }, inl (w.faults, w.zeros))
 text-written IsText text output output' (Err failure.TookNothing) is w =
-    (record { text = text; is_text = is; took = w.err }, inr (w.nothing refl))
+    (record { text = text; is_text = is; took = w.err }, inr (w.faults, w.zeros))
 
 -- so it is of the text of a play
 pub play-written : (Plays : Scenario → List Transcript → List Entry → Type 0) (scenario : Scenario)
@@ -94,7 +94,7 @@ module _ {L State : Type 0} (by : Answering State) (told : L → LinkTold State)
           → HasTakenBack told net.links net'.links
       written status.Ok w = linked w.text w.is_text
       written status.WriteFault w = linked w.0.text w.0.is_text
-      written status.OutOfMemory w = linked w.text w.is_text
+      written status.OutOfMemory w = linked w.0.text w.0.is_text
       written status.Usage w = absurd w
       written (status.Refused place) w = absurd w
       written status.ReadFault w = absurd w
@@ -119,7 +119,7 @@ module _ {L State : Type 0} (by : Answering State) (told : L → LinkTold State)
       (λ one. one ≡ status.Ok) input input' output output' over-ends v)
   usage-none (Some (Gen count)) v = absurd (summed-ends count output output' status.Usage v.0)
 
-  write-failed : (asked : Option Subcommand) → Verdict asked status.WriteFault → Failed output output'
+  write-failed : (asked : Option Subcommand) → Verdict asked status.WriteFault → FailedOnce output output'
   write-failed None v = cc (v.0)
   write-failed (Some Play) v =
       played-write most_input scenario_of (IsPlayText IsScripted) input input' output output' v.0
@@ -176,7 +176,7 @@ module _ {L State : Type 0} (by : Answering State) (told : L → LinkTold State)
       usage = λ is. usage-none (subcommand_of words)
           (subst (Verdict (subcommand_of words)) is (answer-verdict a (λ e. cc (is, e))));
       not_accepted = λ none. answer-or (asked-at None none)
-          (λ v. (v ≡ status.Usage) ⊎ ((v ≡ status.WriteFault) × Failed c c')) (λ v is. inl is.0)
+          (λ v. (v ≡ status.Usage) ⊎ ((v ≡ status.WriteFault) × FailedOnce c c')) (λ v is. inl is.0)
           (λ failed. inr failed);
       play = λ is. text-answers most_input scenario_of (IsPlayText IsScripted) input input' output output'
           (answer-by (asked-at (Some Play) is) (λ v found. found.0));
@@ -187,6 +187,6 @@ module _ {L State : Type 0} (by : Answering State) (told : L → LinkTold State)
       gen = λ count is. count-answers count (asked-at (Some (Gen count)) is);
       kept = kept-of (subcommand_of words) a.verdict a.is_verdict;
       back = λ is. back-of a.verdict (subst (λ (o : Option Subcommand). Verdict o a.verdict) is a.is_verdict);
-      write_fault = answer-write a (Failed output output') (write-failed (subcommand_of words));
+      write_fault = answer-write a (FailedOnce output output') (write-failed (subcommand_of words));
       complained = answer-told a;
     }

@@ -1,3 +1,4 @@
+pub mod Generated
 pub mod Program
 pub mod Statuses
 pub mod Streams

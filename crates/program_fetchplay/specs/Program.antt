@@ -3,7 +3,7 @@
 -- alone, play_isolation's definitions say; why a program comes to a verdict on an input, program_shell's.
 use Rattle.std.specs.Prelude.{◌≡◌, ◌≢◌, ℕ, ◌≤◌, ◌⊎◌, min, List, Option, Some, None}
 use Rattle.program_shell.specs.declared.status.Status.TheVariants as status
-use Rattle.program_fetchplay.specs.Terms.{AllAreAlone, Answering, AnswersInput, AnswersText, Entry, Failed}
+use Rattle.program_fetchplay.specs.Terms.{AllAreAlone, Answering, AnswersInput, AnswersText, Entry, FailedOnce}
 use Rattle.program_fetchplay.specs.Terms.{HasComplained, HasTakenBack, IsAnswer, IsDone, IsExcused, IsIsolated}
 use Rattle.program_fetchplay.specs.Terms.{IsPlay, IsPlayOverLinks, IsPlayed, IsWritten, LinkTold, Place, Reads, Refuses}
 use Rattle.program_fetchplay.specs.Terms.{Scenario, SinkTold, SourceTold, Status, Text, Transcript, WasRefused}
@@ -130,7 +130,7 @@ pub record Answers {L State : Type 0} (by : Answering State) (told : L → LinkT
   -- Usage only where the words are not accepted, and there always, unless the complaints failed
   pub usage : answer ≡ status.Usage → subcommand_of words ≡ None
   pub not_accepted : subcommand_of words ≡ None
-      → (answer ≡ status.Usage) ⊎ ((answer ≡ status.WriteFault) × Failed complaints complaints')
+      → (answer ≡ status.Usage) ⊎ ((answer ≡ status.WriteFault) × FailedOnce complaints complaints')
   -- what the accepted words ask for
   pub play : subcommand_of words ≡ Some Play → AnswersText most_input scenario_of (IsPlayText IsScripted) input input'
       output output' complaints complaints' answer
@@ -144,6 +144,6 @@ pub record Answers {L State : Type 0} (by : Answering State) (told : L → LinkT
   pub kept : subcommand_of words ≢ Some Over → outer' ≡ outer
   pub back : subcommand_of words ≡ Some Over → HasTakenBack told outer.links outer'.links
   -- WriteFault only where a sink failed or took nothing
-  pub write_fault : answer ≡ status.WriteFault → Failed output output' ⊎ Failed complaints complaints'
+  pub write_fault : answer ≡ status.WriteFault → FailedOnce output output' ⊎ FailedOnce complaints complaints'
   -- another answer is told by its whole line, and Ok by none
   pub complained : answer ≢ status.WriteFault → HasComplained (complaint answer) complaints complaints'

@@ -2,7 +2,10 @@
 #![tactic(auto)]
 
 mod complaint;
+mod generated;
+mod laws;
 mod program;
 mod words;
 
+pub use laws::law_addresses;
 pub use program::{PlayStatus, fetchplay};

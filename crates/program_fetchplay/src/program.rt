@@ -8,7 +8,7 @@ ghost use Rattle.play_text.specs.Writes.{Writes};
 ghost use Rattle.program_shell.specs.Inputs.{IsRead, IsUnread, Reads, Refuses};
 ghost use Rattle.program_shell.specs.Program.{IsPlayed};
 ghost use Rattle.program_shell.specs.Words.{texts};
-ghost use Rattle.script_reading.specs.Generated.{generated};
+ghost use Rattle.program_fetchplay.specs.Generated.{generated};
 ghost use Rattle.script_reading.specs.Scenarios.{scenario_of};
 ghost use Rattle.script_scenarios.specs.Valid.{IsValid};
 ghost use Rattle.fetch_wire.specs.Wires.{over_link};
@@ -19,15 +19,16 @@ ghost use Rattle.program_fetchplay.specs.Streams.{net_of};
 ghost use Rattle.program_fetchplay.specs.Words as spec;
 
 use crate::complaint::tell;
+use crate::generated::generate;
 use crate::words::{Subcommand, subcommand_of};
 use link_traits::{Clock, Links, Sink, Source};
-use play_definitions::Played;
+use play_definitions::{Driver, Played};
 use play_isolation::law_isolated;
 use play_seats::SimLink;
 use play_text::{Failure, write_play, write_summary};
 use play_whole::{play_over, play_scripted};
 use program_shell::{Status, read_as, read_input};
-use script_reading::{Place, generate, read_scenario};
+use script_reading::{Place, read_scenario};
 use script_scenarios::Scenario;
 use std::alloc::Global;
 use std::mem::forget;
@@ -44,8 +45,8 @@ pub type PlayStatus = Status<Place>;
 /// The latest time at which a play over links begins, in seconds.
 const MOST_BASE: u64 = 1_099_511_627_776;
 
-/// The program, from its words to its status. The words are tested first. With `play` the input is then
-/// read whole, read as a scenario, and played over the scenario's own servers, on at most 16 threads, and
+/// The program, from its words to its status, over what plays a document. The words are tested first. With `play` the
+/// input is then read whole, read as a scenario, and played over the scenario's own servers, on at most 16 threads, and
 /// the text of the play is written to the output. `net` does the same over the links that are made for the
 /// documents, by the scenario's routes, with a thread for each where one can be made, from the clock's time
 /// on, or from 1,099,511,627,776 seconds on, if that is earlier. With `gen` and a
@@ -62,8 +63,17 @@ const MOST_BASE: u64 = 1_099_511_627_776;
 ///
 /// Where a play succeeded it is forgotten, not freed, and so is a scenario that was read: the program ends, and the
 /// system takes back all of their memory at once. A caller that goes on does not get it back.
-pub fn fetchplay<R: Threads + Wait + Sync, S: Source, K: Sink, E: Sink, N: Links, C: Clock>(
+pub fn fetchplay<
+    R: Threads + Wait + Sync,
+    D: Driver + Sync,
+    S: Source,
+    K: Sink,
+    E: Sink,
+    N: Links,
+    C: Clock,
+>(
     rt: &R,
+    driver: &D,
     alloc: Global,
     words: &[String],
     input: &mut S,
@@ -79,13 +89,14 @@ pub fn fetchplay<R: Threads + Wait + Sync, S: Source, K: Sink, E: Sink, N: Links
         (net_of (maker_of N.opening N.lent N.faults links.old) C.next clock.old)
         (net_of (maker_of N.opening N.lent N.faults links.new) C.next clock.new) result }
 {
-    let verdict = verdict(rt, alloc, words, input, output, links, clock);
+    let verdict = verdict(rt, driver, alloc, words, input, output, links, clock);
     tell(verdict, complaints)
 }
 
 // The verdict on the words and the input, with what was asked for written to the output.
-fn verdict<R: Threads + Wait + Sync, S: Source, K: Sink, N: Links, C: Clock>(
+fn verdict<R: Threads + Wait + Sync, D: Driver + Sync, S: Source, K: Sink, N: Links, C: Clock>(
     rt: &R,
+    driver: &D,
     alloc: Global,
     words: &[String],
     input: &mut S,
@@ -102,9 +113,9 @@ fn verdict<R: Threads + Wait + Sync, S: Source, K: Sink, N: Links, C: Clock>(
 {
     match subcommand_of(words) {
         None => Status::Usage,
-        Some(Subcommand::Play) => play_scenario(rt, alloc, input, output),
-        Some(Subcommand::Net) => play_linked(rt, alloc, input, output, links, clock),
-        Some(Subcommand::Gen(count)) => play_generated(rt, alloc, count, output),
+        Some(Subcommand::Play) => play_scenario(rt, driver, alloc, input, output),
+        Some(Subcommand::Net) => play_linked(rt, driver, alloc, input, output, links, clock),
+        Some(Subcommand::Gen(count)) => play_generated(rt, driver, alloc, count, output),
     }
 }
 
@@ -133,8 +144,9 @@ fn status_of(written: Result<(), Failure>) -> PlayStatus
 }
 
 // Plays the scenario that the input is over its own servers.
-fn play_scenario<R: Threads + Wait + Sync, S: Source, K: Sink>(
+fn play_scenario<R: Threads + Wait + Sync, D: Driver + Sync, S: Source, K: Sink>(
     rt: &R,
+    driver: &D,
     alloc: Global,
     input: &mut S,
     output: &mut K,
@@ -147,7 +159,7 @@ fn play_scenario<R: Threads + Wait + Sync, S: Source, K: Sink>(
         Err(verdict) => return verdict,
         Ok(scenario) => scenario,
     };
-    match play_scripted(rt, alloc, &scenario) {
+    match play_scripted(rt, driver, alloc, &scenario) {
         Err(OutOfMemory) => Status::OutOfMemory,
         Ok(played) => {
             forget(scenario);
@@ -165,8 +177,9 @@ fn base_of<C: Clock>(clock: &mut C) -> u64
 }
 
 // Plays the scenario that the input is over the links that are made for its documents.
-fn play_linked<R: Threads + Wait + Sync, S: Source, K: Sink, N: Links, C: Clock>(
+fn play_linked<R: Threads + Wait + Sync, D: Driver + Sync, S: Source, K: Sink, N: Links, C: Clock>(
     rt: &R,
+    driver: &D,
     alloc: Global,
     input: &mut S,
     output: &mut K,
@@ -187,7 +200,7 @@ fn play_linked<R: Threads + Wait + Sync, S: Source, K: Sink, N: Links, C: Clock>
     let base = base_of(clock);
     // a document that waits for its server keeps no other from its work
     let threads = scenario.documents.len();
-    match play_over(rt, alloc, &scenario, base, threads, links) {
+    match play_over(rt, driver, alloc, &scenario, base, threads, links) {
         Err(OutOfMemory) => Status::OutOfMemory,
         Ok(played) => {
             forget(scenario);
@@ -208,8 +221,9 @@ fn write_text<K: Sink>(alloc: Global, played: Played, output: &mut K) -> Result<
 }
 
 // The play of the generated scenario of so many documents.
-fn generated_play<R: Threads + Wait + Sync>(
+fn generated_play<R: Threads + Wait + Sync, D: Driver + Sync>(
     rt: &R,
+    driver: &D,
     alloc: Global,
     count: u32,
 ) -> Result<Played, OutOfMemory>
@@ -218,12 +232,13 @@ fn generated_play<R: Threads + Wait + Sync>(
     ensures has_text { IfOk result (λ played. HasText played.transcripts) }
 {
     let scenario = generate(alloc, count)?;
-    play_scripted(rt, alloc, &scenario)
+    play_scripted(rt, driver, alloc, &scenario)
 }
 
 // Plays the generated scenario of so many documents and writes the summary of the play.
-fn play_generated<R: Threads + Wait + Sync, K: Sink>(
+fn play_generated<R: Threads + Wait + Sync, D: Driver + Sync, K: Sink>(
     rt: &R,
+    driver: &D,
     alloc: Global,
     count: u32,
     output: &mut K,
@@ -232,7 +247,7 @@ fn play_generated<R: Threads + Wait + Sync, K: Sink>(
     ensures { IsSummed count (K.takes output.old)
         (K.takes output.new) result }
 {
-    let played = match generated_play(rt, alloc, count) {
+    let played = match generated_play(rt, driver, alloc, count) {
         Err(OutOfMemory) => return Status::OutOfMemory,
         Ok(played) => played,
     };

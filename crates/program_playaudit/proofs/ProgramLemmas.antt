@@ -1,7 +1,7 @@
 -- What the program's account of its answer says of each status.
 use Rattle.std.proofs.Common.{◌≡◌, ◌≢◌, ℕ, ◌⊎◌, inl, inr, List, [], ◌∷◌, refl, sym, subst, ◌∙◌}
-use Rattle.link_traits.specs.Counts.{Rose}
-use Rattle.link_traits.specs.Sinks.{SinkTold}
+use Rattle.link_traits.specs.Counts.{one_more}
+use Rattle.link_traits.specs.Sinks.{FailedOnce, SinkTold}
 use Rattle.link_traits.specs.Sources.{SourceTold}
 use Rattle.audit_verdict.specs.declared.verdict.Verdict.{Verdict}
 use Rattle.audit_verdict.specs.declared.verdict.Verdict.TheVariants as verdict
@@ -9,7 +9,6 @@ use Rattle.program_shell.proofs.ProgramLemmas.{Ends, IsOwn, IsReading, answer-by
 use Rattle.program_shell.proofs.ProgramLemmas.{answer-verdict}
 use Rattle.program_shell.proofs.ProgramLemmas.{answer-write, done-read, done-usage, done-write, input-answers}
 use Rattle.program_shell.specs.Complaints.{IsAnswer}
-use Rattle.program_shell.specs.Sinks.{Failed}
 use Rattle.program_shell.specs.declared.status.Status.{Status}
 use Rattle.program_shell.specs.declared.status.Status.TheVariants as status
 use Rattle.program_playaudit.specs.Program.{Answers, IsAudited, IsDone, IsFound, IsVerdictTold, Parts, Reads, Refuses}
@@ -68,12 +67,12 @@ module _ (input input' : SourceTold) (output output' : SinkTold) where
       IsVerdictTold input input' output output' audited-ends found
   usage-some (word ∷ words) found none = cc
 
-  read-rose : (words : List (List ℕ)) → Found words status.ReadFault → Rose input.faults input'.faults
+  read-rose : (words : List (List ℕ)) → Found words status.ReadFault → input'.faults ≡ one_more input.faults
   read-rose [] found = done-read most_input Reads Refuses (output' ≡ output) (IsAudited output output') framing
       IsVerdictTold input input' output output' audited-ends found
   read-rose (word ∷ words) found = cc (found.0)
 
-  write-failed : (words : List (List ℕ)) → Found words status.WriteFault → Failed output output'
+  write-failed : (words : List (List ℕ)) → Found words status.WriteFault → FailedOnce output output'
   write-failed [] found = done-write most_input Reads Refuses (output' ≡ output) (IsAudited output output') framing
       IsVerdictTold input input' output output' audited-ends found
   write-failed (word ∷ words) found = cc (found.0)
@@ -94,14 +93,14 @@ module _ (input input' : SourceTold) (output output' : SinkTold) where
         let x = some-words words a.verdict some a.is_verdict in (
           x.1,
           x.2,
-          answer-or a (λ v. (v ≡ status.Usage) ⊎ ((v ≡ status.WriteFault) × Failed c c'))
+          answer-or a (λ v. (v ≡ status.Usage) ⊎ ((v ≡ status.WriteFault) × FailedOnce c c'))
               (λ v is. inl (some-words words v some is).0) (λ failed. inr failed),
         );
     no_words = λ none. input-answers most_input Reads Refuses (output' ≡ output) (IsAudited output output') framing
         IsVerdictTold input input' output output' audited-ends c c'
         (answer-by a (λ v is. subst (λ (w : List (List ℕ)). Found w v) none is));
     read_fault = λ is. read-rose words (at is (λ e. cc (e)));
-    write_fault = answer-write a (Failed output output') (write-failed words);
+    write_fault = answer-write a (FailedOnce output output') (write-failed words);
     told_whole = answer-told a;
   }
     where

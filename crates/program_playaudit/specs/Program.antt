@@ -3,15 +3,14 @@
 -- input, program_shell.
 use Rattle.std.specs.Prelude.{◌≡◌, ◌≢◌, ℕ, ◌⊎◌, List, [], ◌∷◌}
 use Rattle.value_text.specs.Texts.{Text}
-use Rattle.link_traits.specs.Counts.{Rose}
-use Rattle.link_traits.specs.Sinks.{SinkTold, Took, TookPart}
+use Rattle.link_traits.specs.Counts.{one_more}
+use Rattle.link_traits.specs.Sinks.{FailedOnce, NeverFailed, SinkTold, Took, TookPart}
 use Rattle.link_traits.specs.Sources.{SourceTold}
 use Rattle.audit_text.specs.Frames.{IsFramed}
 use Rattle.audit_verdict.specs.Verdicts.{IsVerdict}
 use Rattle.audit_verdict.specs.declared.verdict.Verdict.{Verdict}
 use Rattle.program_shell.specs.Complaints.{HasComplained, IsAnswer}
 use Rattle.program_shell.specs.Program.{AnswersInput, IsDone as IsDoneWith}
-use Rattle.program_shell.specs.Sinks.{Failed}
 use Rattle.program_shell.specs.declared.status.Status.{Status}
 use Rattle.program_shell.specs.declared.status.Status.TheVariants as status
 use Rattle.program_playaudit.specs.Statuses.{complaint, status_of, verdict_line}
@@ -41,9 +40,10 @@ Refuses bytes found = (found ≡ status.OwnFault) × IsUnframed bytes
 
 -- what comes of writing the line of a verdict
 abbrev pub IsWritten : Verdict → SinkTold → SinkTold → Status Verdict → Type 0
-IsWritten one old new status.WriteFault = TookPart old.taken new.taken (verdict_line one) × Failed old new
+IsWritten one old new status.WriteFault = TookPart old.taken new.taken (verdict_line one) × FailedOnce old new
 IsWritten one old new status.OutOfMemory = new ≡ old
-IsWritten one old new found = (found ≡ status_of one) × Took old.taken new.taken (verdict_line one)
+IsWritten one old new found =
+    (found ≡ status_of one) × Took old.taken new.taken (verdict_line one) × NeverFailed old new
 
 -- The verdict on a scenario and a play, and what came of writing its line.
 pub record IsAudited (output output' : SinkTold) (parts : Parts) (found : Status Verdict) : Type 0 where
@@ -75,12 +75,12 @@ pub record Answers (words : List Text) (input input' : SourceTold)
   -- Usage only where there are words, and there always, unless the complaints failed; then nothing was read or written
   pub usage : answer ≡ status.Usage → words ≢ []
   pub some_words : words ≢ [] → (input' ≡ input) × (output' ≡ output)
-      × ((answer ≡ status.Usage) ⊎ ((answer ≡ status.WriteFault) × Failed complaints complaints'))
+      × ((answer ≡ status.Usage) ⊎ ((answer ≡ status.WriteFault) × FailedOnce complaints complaints'))
   -- what the input has, where there are none: a framed one is audited, and the line of its verdict is written
   pub no_words : words ≡ [] → AnswersInput most_input Reads Refuses (output' ≡ output) (IsAudited output output')
       IsVerdictTold input input' output output' complaints complaints' answer
-  -- faults of the input and of what is written only where a count rose
-  pub read_fault : answer ≡ status.ReadFault → Rose input.faults input'.faults
-  pub write_fault : answer ≡ status.WriteFault → Failed output output' ⊎ Failed complaints complaints'
+  -- faults of the input and of what is written only where a count rose by one
+  pub read_fault : answer ≡ status.ReadFault → input'.faults ≡ one_more input.faults
+  pub write_fault : answer ≡ status.WriteFault → FailedOnce output output' ⊎ FailedOnce complaints complaints'
   -- a status other than WriteFault is told by its whole line, and Ok and Refused by none
   pub told_whole : answer ≢ status.WriteFault → HasComplained (complaint answer) complaints complaints'

@@ -5,4 +5,5 @@ mod complaint;
 mod line;
 mod program;
 
+pub use line::line_of;
 pub use program::{AuditStatus, playaudit};

@@ -36,7 +36,7 @@ fn add_verdict(line: &mut Bytes, verdict: &Verdict) -> Result<(), OutOfMemory>
 }
 
 /// The line of a verdict.
-pub(crate) fn line_of(alloc: Global, verdict: &Verdict) -> Result<Bytes, OutOfMemory>
+pub fn line_of(alloc: Global, verdict: &Verdict) -> Result<Bytes, OutOfMemory>
     ensures { IfOk result (λ line. line ≡ spec.verdict_line verdict.now) }
 {
     if matches!(verdict, Verdict::Play) {

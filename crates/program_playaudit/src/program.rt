@@ -8,8 +8,8 @@ use crate::complaint::tell;
 use crate::line::line_of;
 use audit_text::framed;
 use audit_verdict::{Verdict, audit};
-use link_traits::{Sink, Source};
-use program_shell::{Status, read_input, write_text};
+use link_traits::{Sink, Source, write_whole};
+use program_shell::{Status, read_input};
 use std::alloc::Global;
 use value_bytes::OutOfMemory;
 
@@ -100,7 +100,7 @@ fn write_verdict<K: Sink>(alloc: Global, verdict: Verdict, output: &mut K) -> Au
         Err(OutOfMemory) => return Status::OutOfMemory,
         Ok(line) => line,
     };
-    match write_text(output, line.as_slice()) {
+    match write_whole(output, line.as_slice()) {
         Ok(()) => status_of(verdict),
         Err(_) => Status::WriteFault,
     }

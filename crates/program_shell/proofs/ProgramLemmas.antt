@@ -1,21 +1,30 @@
 -- What a program's account of its answer says of each status.
 use Rattle.std.proofs.Common.{◌≡◌, ◌≢◌, ℕ, ◌+◌, ◌≤◌, ◌<◌, ◌⊎◌, inl, inr, List, length}
-use Rattle.std.proofs.Common.{Option, Some, None, Result, Ok, Err, refl, ap, sym, subst, ◌∙◌, arith}
+use Rattle.std.proofs.Common.{Option, Some, None, Result, Ok, Err, OnErr, OnOk, refl, ap, sym, subst, ◌∙◌, arith}
+use Rattle.link_traits.proofs.SinkLemmas.{written-failed}
 use Rattle.link_traits.proofs.SourceLemmas.{gave-all, gave-short}
-use Rattle.link_traits.specs.Counts.{Rose}
-use Rattle.link_traits.specs.Sinks.{SinkTold}
+use Rattle.link_traits.specs.Counts.{one_more}
+use Rattle.link_traits.specs.Sinks.{FailedOnce, SinkTold, Took, TookPart, faults_written, zeros_written}
+use Rattle.link_traits.specs.declared.sink.WriteFault.{WriteFault}
 use Rattle.link_traits.specs.Sources.{Gave, SourceTold}
-use Rattle.program_shell.specs.Complaints.{CannotComplain, HasComplained, IsAnswer}
+use Rattle.program_shell.specs.Complaints.{CannotComplain, HasComplained, IsAnswer, IsComplained}
 use Rattle.program_shell.specs.Inputs.{IsRead, IsUnread, IsWhole, IsWhyStopped, Reads}
 use Rattle.program_shell.specs.Inputs.{Refuses}
 use Rattle.program_shell.specs.Program.{AnswersInput, AnswersText, IsCause, IsDone, IsExcusedRead, IsPlayed, IsWritten}
-use Rattle.program_shell.specs.Sinks.{Failed}
 use Rattle.program_shell.specs.declared.status.Status.{Status}
 use Rattle.program_shell.specs.declared.status.Status.TheVariants as status
 
 -- ---- what was told
 
-pub cannot-failed : (line : Option (List ℕ)) (c c' : SinkTold) → CannotComplain line c c' → Failed c c'
+-- what comes of writing a line of complaint
+pub complained : (text : List ℕ) (c c' : SinkTold) (r : Result (Unit {0}) WriteFault)
+    → OnOk r (Took c.taken c'.taken text) → OnErr r (TookPart c.taken c'.taken text)
+    → c'.faults ≡ faults_written c.faults r → c'.zeros ≡ zeros_written c.zeros r → IsComplained (Some text) c c' r
+complained text c c' (Ok done) ok err faults zeros = (ok, (faults, zeros))
+complained text c c' (Err fault) ok err faults zeros =
+    (err, written-failed {A = Unit {0}} (Err fault) c c' faults zeros)
+
+pub cannot-failed : (line : Option (List ℕ)) (c c' : SinkTold) → CannotComplain line c c' → FailedOnce c c'
 cannot-failed None c c' t = absurd t
 cannot-failed (Some line) c c' t = t.1
 
@@ -23,7 +32,7 @@ module _ {R : Type 0} {V : Status R → Type 0} {complaint : Status R → Option
     {answer : Status R} (a : IsAnswer V complaint c c' answer) where
   -- what holds of each verdict, and where a complaint failed, holds of the answer
   pub answer-or : (W : Status R → Type 0) → ((v : Status R) → V v → W v)
-      → ((answer ≡ status.WriteFault) × Failed c c' → W answer) → W answer
+      → ((answer ≡ status.WriteFault) × FailedOnce c c' → W answer) → W answer
   answer-or W of failed = elim a.is_told [
     | inl x ↦ subst W (sym x.0) (of a.verdict a.is_verdict)
     | inr x ↦ failed (x.0, cannot-failed (complaint a.verdict) c c' x.1)
@@ -39,7 +48,7 @@ module _ {R : Type 0} {V : Status R → Type 0} {complaint : Status R → Option
     | inr x ↦ absurd (other x.0)
   ]
 
-  pub answer-write : (F : Type 0) → (V status.WriteFault → F) → answer ≡ status.WriteFault → F ⊎ Failed c c'
+  pub answer-write : (F : Type 0) → (V status.WriteFault → F) → answer ≡ status.WriteFault → F ⊎ FailedOnce c c'
   answer-write F of is = elim a.is_told [
     | inl x ↦ inl (of (subst V (sym x.0 ∙ is) a.is_verdict))
     | inr x ↦ inr (cannot-failed (complaint a.verdict) c c' x.1)
@@ -63,7 +72,7 @@ Ends finishes output output' status.Usage = ⊥
 Ends finishes output output' status.ReadFault = ⊥
 Ends finishes output output' status.InputTooLong = ⊥
 Ends finishes output output' status.OutOfMemory = Unit {0}
-Ends finishes output output' status.WriteFault = Failed output output'
+Ends finishes output output' status.WriteFault = FailedOnce output output'
 Ends finishes output output' verdict = finishes verdict
 
 -- no bytes are both read and refused; they are refused by one verdict, which is Refused or OwnFault
@@ -110,7 +119,7 @@ module _ {A R : Type 0} (most : ℕ) (Reads : List ℕ → A → Type 0) (Refuse
   pub refused-done : (input input' : SourceTold) (asked : A) → Untouched
       → IsRead most Reads Refuses input input' asked → Done input input' status.OutOfMemory
   refused-done input input' asked untouched r =
-      record { bytes = r.bytes; gave = r.given.gave; cause = inl (r.given.whole.short, untouched) }
+      record { bytes = r.bytes; gave = r.given.gave; cause = inl ((r.given.whole.short, r.given.whole.quiet), untouched) }
 
   -- the work came to the verdict
   pub worked-done : (input input' : SourceTold) (asked : A) (verdict : Status R)
@@ -131,7 +140,7 @@ module _ {A R : Type 0} (most : ℕ) (Reads : List ℕ → A → Type 0) (Refuse
       | inr x ↦ elim x [ inl y ↦ is_reading.own d.bytes status.Usage y.1 | inr w ↦ ends w.asked status.Usage w.works ]
     ]
 
-    pub done-read : Done input input' status.ReadFault → Rose input.faults input'.faults
+    pub done-read : Done input input' status.ReadFault → input'.faults ≡ one_more input.faults
     done-read d = elim d.cause [
       | inl x ↦ x.0.1
       | inr x ↦ elim x [
@@ -140,7 +149,7 @@ module _ {A R : Type 0} (most : ℕ) (Reads : List ℕ → A → Type 0) (Refuse
       ]
     ]
 
-    pub done-write : Done input input' status.WriteFault → Failed output output'
+    pub done-write : Done input input' status.WriteFault → FailedOnce output output'
     done-write d = elim d.cause [
       | inl x ↦ absurd x.0
       | inr x ↦ elim x [
@@ -156,7 +165,7 @@ module _ {A R : Type 0} (most : ℕ) (Reads : List ℕ → A → Type 0) (Refuse
       stopped : (bytes : List ℕ) (v : Status R) → IsWhyStopped most bytes input input' v
           → ((v ≡ status.InputTooLong) × (length bytes ≡ most + 1)) ⊎ Excused v
       stopped bytes status.ReadFault why = inr (inl (refl, why.1))
-      stopped bytes status.InputTooLong why = inl (refl, why)
+      stopped bytes status.InputTooLong why = inl (refl, why.0)
       stopped bytes status.OutOfMemory why = inr (inr (inl refl))
       stopped bytes status.Ok why = absurd why
       stopped bytes status.Usage why = absurd why
@@ -182,8 +191,8 @@ module _ {A R : Type 0} (most : ℕ) (Reads : List ℕ → A → Type 0) (Refuse
         where
           why-bound : (v : Status R) → IsWhyStopped most bytes input input' v → length bytes ≤ most + 1
           why-bound status.ReadFault why = omega (arith, why.0)
-          why-bound status.InputTooLong why = omega (arith, why)
-          why-bound status.OutOfMemory why = omega (arith, why)
+          why-bound status.InputTooLong why = omega (arith, why.0)
+          why-bound status.OutOfMemory why = omega (arith, why.0)
           why-bound status.Ok why = absurd why
           why-bound status.Usage why = absurd why
           why-bound (status.Refused reason) why = absurd why
@@ -192,7 +201,7 @@ module _ {A R : Type 0} (most : ℕ) (Reads : List ℕ → A → Type 0) (Refuse
 
       -- where the input tells its bytes
       module _ (bytes : List ℕ) (tells : input.left ≡ Some bytes) where
-        same-whole : (given : List ℕ) → Gave input.left input'.left given → IsWhole most given input' → given ≡ bytes
+        same-whole : (given : List ℕ) → Gave input.left input'.left given → IsWhole most given input input' → given ≡ bytes
         same-whole given gave whole = gave-all bytes given input.left input'.left tells gave whole.end
 
         not-longer : (given : List ℕ) → Gave input.left input'.left given → length bytes ≤ most
@@ -236,7 +245,7 @@ module _ {A R : Type 0} (most : ℕ) (Reads : List ℕ → A → Type 0) (Refuse
           | inr x ↦ elim x [ inl y ↦ absurd (whole-not y.0) | inr w ↦ absurd (whole-not w.whole) ]
         ]
           where
-            whole-not : IsWhole most d.bytes input' → ⊥
+            whole-not : IsWhole most d.bytes input input' → ⊥
             whole-not whole = omega (arith, ap length (same-whole d.bytes d.gave whole), whole.short, long)
 
       pub input-answers : {complaint : Status R → Option (List ℕ)} {answer : Status R}
@@ -312,7 +321,7 @@ module _ {A R : Type 0} (most : ℕ) (reading : List ℕ → Result A R) (IsText
   played-usage d = done-usage most (Reads reading) (Refuses reading) (output' ≡ output) Written (is-reading reading)
       (λ one. one ≡ status.Ok) input input' output output' text-ends d
 
-  pub played-write : Played output' status.WriteFault → Failed output output'
+  pub played-write : Played output' status.WriteFault → FailedOnce output output'
   played-write d = done-write most (Reads reading) (Refuses reading) (output' ≡ output) Written (is-reading reading)
       (λ one. one ≡ status.Ok) input input' output output' text-ends d
 

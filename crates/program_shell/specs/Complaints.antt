@@ -1,21 +1,20 @@
 -- How a program tells what it came to: by one line on the complaints, or by none.
 use Rattle.std.specs.Prelude.{◌≡◌, ◌⊎◌, Option, Some, None, Result, Ok, Err}
 use Rattle.value_text.specs.Texts.{Text}
-use Rattle.link_traits.specs.Sinks.{SinkTold, Took, TookPart}
+use Rattle.link_traits.specs.Sinks.{FailedOnce, NeverFailed, SinkTold, Took, TookPart}
 use Rattle.link_traits.specs.declared.sink.WriteFault.{WriteFault}
-use Rattle.program_shell.specs.Sinks.{Failed}
 use Rattle.program_shell.specs.declared.status.Status.{Status}
 use Rattle.program_shell.specs.declared.status.Status.TheVariants as status
 
--- the complaints have taken the line, where there is one
+-- the complaints have taken the line, where there is one, and did not fail
 abbrev pub HasComplained : Option Text → SinkTold → SinkTold → Type 0
 HasComplained None old new = new ≡ old
-HasComplained (Some line) old new = Took old.taken new.taken line
+HasComplained (Some line) old new = Took old.taken new.taken line × NeverFailed old new
 
 -- they have taken a part of it, since they failed
 abbrev pub CannotComplain : Option Text → SinkTold → SinkTold → Type 0
 CannotComplain None old new = ⊥
-CannotComplain (Some line) old new = TookPart old.taken new.taken line × Failed old new
+CannotComplain (Some line) old new = TookPart old.taken new.taken line × FailedOnce old new
 
 -- what comes of writing the line
 abbrev pub IsComplained : Option Text → SinkTold → SinkTold → Result (Unit {0}) WriteFault → Type 0

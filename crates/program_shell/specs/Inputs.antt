@@ -1,7 +1,7 @@
 -- What a program has of its input: all bytes to its end, of which there are not too many, and what they are read as
 -- (this project's own).
 use Rattle.std.specs.Prelude.{◌≡◌, ℕ, ◌+◌, ◌≤◌, ◌⊎◌, length, Result, Ok, Err}
-use Rattle.link_traits.specs.Counts.{Rose}
+use Rattle.link_traits.specs.Counts.{one_more}
 use Rattle.link_traits.specs.Sources.{Gave, IsAtEnd, SourceTold}
 use Rattle.value_text.specs.Texts.{Text}
 use Rattle.value_bytes.specs.declared.memory.OutOfMemory.{OutOfMemory}
@@ -16,21 +16,24 @@ pub record GaveFor (input input' : SourceTold) (reason : Text → Type 0) : Type
 
 -- By how many bytes an input has at most:
 module _ (most : ℕ) where
-  -- the input was read to its end, and is not too long
-  pub record IsWhole (bytes : Text) (new : SourceTold) : Type 0 where
+  -- the input was read to its end, is not too long, and has not failed
+  pub record IsWhole (bytes : Text) (old new : SourceTold) : Type 0 where
     pub end : IsAtEnd new.left
     pub short : length bytes ≤ most
+    pub quiet : new.faults ≡ old.faults
 
   -- the input is these bytes, to its end
   pub record IsGiven (input input' : SourceTold) (bytes : Text) : Type 0 where
     pub gave : Gave input.left input'.left bytes
-    pub whole : IsWhole bytes input'
+    pub whole : IsWhole bytes input input'
 
-  -- why an input was not read to its end, or memory was refused for what it asks
+  -- why an input was not read to its end, or memory was refused for what it asks; it has failed with ReadFault alone
   abbrev pub IsWhyStopped : {R : Type 0} → Text → SourceTold → SourceTold → Status R → Type 0
-  IsWhyStopped bytes input input' status.ReadFault = (length bytes ≤ most) × Rose input.faults input'.faults
-  IsWhyStopped bytes input input' status.InputTooLong = length bytes ≡ most + 1
-  IsWhyStopped bytes input input' status.OutOfMemory = length bytes ≤ most
+  IsWhyStopped bytes input input' status.ReadFault =
+      (length bytes ≤ most) × (input'.faults ≡ one_more input.faults)
+  IsWhyStopped bytes input input' status.InputTooLong =
+      (length bytes ≡ most + 1) × (input'.faults ≡ input.faults)
+  IsWhyStopped bytes input input' status.OutOfMemory = (length bytes ≤ most) × (input'.faults ≡ input.faults)
   IsWhyStopped bytes input input' _ = ⊥
 
   -- the verdict on an input that was not read to its end
@@ -51,7 +54,7 @@ module _ (most : ℕ) where
     pub record IsUnread (input input' : SourceTold) (verdict : Status R) : Type 0 where
       pub bytes : Text
       pub gave : Gave input.left input'.left bytes
-      pub why : IsWhyStopped bytes input input' verdict ⊎ (IsWhole bytes input' × Refuses bytes verdict)
+      pub why : IsWhyStopped bytes input input' verdict ⊎ (IsWhole bytes input input' × Refuses bytes verdict)
 
 -- ---- bytes that are read, or refused, by a function
 

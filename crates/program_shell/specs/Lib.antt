@@ -1,6 +1,5 @@
 pub mod Complaints
 pub mod Inputs
 pub mod Program
-pub mod Sinks
 pub mod Statuses
 pub mod Words

@@ -3,11 +3,10 @@
 -- own).
 use Rattle.std.specs.Prelude.{◌≡◌, ◌≢◌, ℕ, ◌+◌, ◌≤◌, ◌<◌, ◌⊎◌, length, Some, Result}
 use Rattle.value_text.specs.Texts.{Text}
-use Rattle.link_traits.specs.Counts.{Rose}
-use Rattle.link_traits.specs.Sinks.{SinkTold, Took, TookPart}
+use Rattle.link_traits.specs.Counts.{one_more}
+use Rattle.link_traits.specs.Sinks.{FailedOnce, NeverFailed, SinkTold, Took, TookPart}
 use Rattle.link_traits.specs.Sources.{Gave, SourceTold}
 use Rattle.program_shell.specs.Inputs.{GaveFor, IsWhole, IsWhyStopped, Reads, Refuses}
-use Rattle.program_shell.specs.Sinks.{Failed}
 use Rattle.program_shell.specs.declared.status.Status.{Status}
 use Rattle.program_shell.specs.declared.status.Status.TheVariants as status
 
@@ -17,13 +16,13 @@ use Rattle.program_shell.specs.declared.status.Status.TheVariants as status
 abbrev pub IsExcused : {R : Type 0} → SinkTold → SinkTold → SinkTold → SinkTold → Status R → Type 0
 IsExcused output output' complaints complaints' answer =
     (answer ≡ status.OutOfMemory)
-    ⊎ ((answer ≡ status.WriteFault) × (Failed output output' ⊎ Failed complaints complaints'))
+    ⊎ ((answer ≡ status.WriteFault) × (FailedOnce output output' ⊎ FailedOnce complaints complaints'))
 
 -- where an input was read, it may have failed too
 abbrev pub IsExcusedRead : {R : Type 0} → SourceTold → SourceTold → SinkTold → SinkTold → SinkTold → SinkTold
     → Status R → Type 0
 IsExcusedRead input input' output output' complaints complaints' answer =
-    ((answer ≡ status.ReadFault) × Rose input.faults input'.faults)
+    ((answer ≡ status.ReadFault) × (input'.faults ≡ one_more input.faults))
     ⊎ IsExcused output output' complaints complaints' answer
 
 -- ---- an input
@@ -33,12 +32,12 @@ IsExcusedRead input input' output output' complaints complaints' answer =
 module _ {A R : Type 0} (most : ℕ) (Reads : Text → A → Type 0) (Refuses : Text → Status R → Type 0)
     (Untouched : Type 0) (Works : A → Status R → Type 0) where
   -- the bytes of a whole input are refused by the verdict, and nothing was done
-  abbrev pub IsRefused : Text → SourceTold → Status R → Type 0
-  IsRefused bytes input' verdict = IsWhole most bytes input' × Refuses bytes verdict × Untouched
+  abbrev pub IsRefused : Text → SourceTold → SourceTold → Status R → Type 0
+  IsRefused bytes input input' verdict = IsWhole most bytes input input' × Refuses bytes verdict × Untouched
 
   -- the bytes of a whole input were read, and the work on what they are came to the verdict
-  pub record HasWorked (bytes : Text) (input' : SourceTold) (verdict : Status R) : Type 0 where
-    pub whole : IsWhole most bytes input'
+  pub record HasWorked (bytes : Text) (input input' : SourceTold) (verdict : Status R) : Type 0 where
+    pub whole : IsWhole most bytes input input'
     pub asked : A
     pub reads : Reads bytes asked
     pub works : Works asked verdict
@@ -48,8 +47,8 @@ module _ {A R : Type 0} (most : ℕ) (Reads : Text → A → Type 0) (Refuses : 
   abbrev pub IsCause : Text → SourceTold → SourceTold → Status R → Type 0
   IsCause bytes input input' verdict =
       (IsWhyStopped most bytes input input' verdict × Untouched)
-      ⊎ IsRefused bytes input' verdict
-      ⊎ HasWorked bytes input' verdict
+      ⊎ IsRefused bytes input input' verdict
+      ⊎ HasWorked bytes input input' verdict
 
   -- the verdict on an input
   pub record IsDone (input input' : SourceTold) (verdict : Status R) : Type 0 where
@@ -64,7 +63,7 @@ module _ {A R : Type 0} (most : ℕ) (Reads : Text → A → Type 0) (Refuses : 
     -- an answer has its cause
     pub cause : answer ≢ status.WriteFault → GaveFor input input' (λ bytes. IsCause bytes input input' answer)
     -- ReadFault only where the input failed
-    pub read_fault : answer ≡ status.ReadFault → Rose input.faults input'.faults
+    pub read_fault : answer ≡ status.ReadFault → input'.faults ≡ one_more input.faults
     -- an input that is accepted is finished, but for the excuses
     pub complete : (bytes : Text) (asked : A) → input.left ≡ Some bytes → length bytes ≤ most → Reads bytes asked
         → Finishes answer ⊎ IsExcusedRead input input' output output' complaints complaints' answer
@@ -82,11 +81,12 @@ module _ {A R : Type 0} (most : ℕ) (Reads : Text → A → Type 0) (Refuses : 
 
 -- By which texts may be written:
 module _ (IsText : Text → Type 0) where
-  -- the output has taken such a text, and nothing else
+  -- the output has taken such a text, and nothing else, and did not fail
   pub record WritesText (old new : SinkTold) : Type 0 where
     pub text : Text
     pub is_text : IsText text
     pub took : Took old.taken new.taken text
+    pub quiet : NeverFailed old new
 
   -- it has taken nothing, or a prefix of such a text
   pub record WritesPart (old new : SinkTold) : Type 0 where
@@ -97,8 +97,8 @@ module _ (IsText : Text → Type 0) where
   -- what comes of the work on such a text
   abbrev pub IsWritten : {R : Type 0} → SinkTold → SinkTold → Status R → Type 0
   IsWritten old new status.Ok = WritesText old new
-  IsWritten old new status.WriteFault = WritesPart old new × Failed old new
-  IsWritten old new status.OutOfMemory = WritesPart old new
+  IsWritten old new status.WriteFault = WritesPart old new × FailedOnce old new
+  IsWritten old new status.OutOfMemory = WritesPart old new × NeverFailed old new
   IsWritten old new _ = ⊥
 
 -- A program that writes a text for what its input is, by which texts these are:

@@ -9,4 +9,4 @@ mod writing;
 pub use complaint::{complain, told};
 pub use input::{read_as, read_input};
 pub use status::{Status, status_of};
-pub use writing::{write_line, write_text};
+pub use writing::write_line;

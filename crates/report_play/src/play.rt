@@ -12,10 +12,11 @@ use book_calls::History;
 use book_turns::{Closed, TurnBook, TurnPass, TurnShare};
 use link_traits::Link;
 use play_definitions::Seating;
-use play_documents::play_all;
+use play_documents::ByFetches;
 use play_fetch::OverLink;
+use play_links::SCRIPTED_THREADS;
 use play_seats::{SimLinks, open_play};
-use play_whole::SCRIPTED_THREADS;
+use play_threads::play_all;
 use report_delivery::Delivered;
 use script_events::{Transcripts, has_text};
 use script_scenarios::Scenario;
@@ -70,7 +71,7 @@ fn play_seated<R: Threads + Wait + Sync, L: Link + Send + Drop>(
     let share = TurnShare { rt, book: &book };
     let transcripts = play_all(
         rt,
-        &OverLink,
+        &ByFetches { fetcher: OverLink },
         alloc,
         scenario,
         scenario.now,

@@ -8,7 +8,8 @@ ghost use Rattle.script_scenarios.specs.Valid.{IsValid};
 use crate::scenarios::scenario_in;
 use book_calls::{Book, History, Share, SoloBook, SoloPass};
 use link_traits::MemorySink;
-use play_documents::drive;
+use play_definitions::Driver;
+use play_documents::ByFetches;
 use play_fetch::OverLink;
 use play_text::write_play;
 use rows_links::{link_in, show_link};
@@ -58,16 +59,8 @@ fn play_row<S: Share>(
     let held = scenario_of(alloc, line)?;
     let scenario = &held.value;
     let now = scenario.now;
-    let transcript = drive(
-        &OverLink,
-        alloc,
-        scenario,
-        0,
-        now,
-        share,
-        pass,
-        &mut link.value,
-    );
+    let driver = ByFetches { fetcher: OverLink };
+    let transcript = driver.drive(alloc, scenario, 0, now, share, pass, &mut link.value);
     show_link(&link.value, shown);
     transcripts.push(transcript)?;
     Ok(())

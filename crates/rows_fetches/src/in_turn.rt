@@ -1,7 +1,7 @@
 // Documents that are played one after another, without threads.
 use crate::documents::show;
 use crate::scenarios::{TWO_DOCUMENTS, scenario_in};
-use play_whole::play_in_turn;
+use play_serial::play_in_turn;
 use rows_shell::{Failed, Shown};
 use std::alloc::Global;
 

@@ -10,8 +10,9 @@ use crate::scenarios::{TWO_DOCUMENTS, scenario_in};
 use book_calls::Book;
 use book_turns::{TurnBook, TurnPass, TurnShare};
 use play_definitions::Seating;
-use play_documents::play_all;
+use play_documents::ByFetches;
 use play_fetch::OverLink;
+use play_threads::play_all;
 use rows_links::{Asked, WaitingLink, WaitingLinks, waiting_for};
 use rows_shell::{Failed, Shown};
 use script_events::{Ending, Transcript};
@@ -74,7 +75,8 @@ fn play_on<'a, R: Threads + Wait + Sync>(
     requires belong { All (λ s. s.pass.seat.table_id ≡ book.now.table.shared.table_id) seats.old.items }
 {
     let share = TurnShare { rt, book };
-    let transcripts = play_all(rt, &OverLink, alloc, scenario, 0, &share, 2, seats)?;
+    let driver = ByFetches { fetcher: OverLink };
+    let transcripts = play_all(rt, &driver, alloc, scenario, 0, &share, 2, seats)?;
     for transcript in transcripts.as_slice() {
         show(transcript, shown);
     }

@@ -96,6 +96,7 @@ fn load(alloc: Global, text: &[u8], client: &Client, shown: &mut Shown) -> Resul
     match new_load(alloc, &init.value, client)? {
         Ok(request) => show_load(client, &Held { value: request }.value, shown),
         Err(TypeFault::BadUrl) => shown.add(b"type-error 1 BadUrl"),
+        Err(TypeFault::LongUrl) => shown.add(b"type-error 10 LongUrl"),
         Err(_) => shown.add(b"DIFFERS"),
     }
     Ok(())

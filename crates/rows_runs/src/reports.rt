@@ -1,4 +1,6 @@
 // The reports of a scenario's documents as requests.
+use play_documents::ByFetches;
+use play_fetch::OverLink;
 use play_whole::play_scripted;
 use report_delivery::report_requests;
 use rows_fetches::scenario_in;
@@ -49,7 +51,8 @@ pub(crate) fn show_requests<R: Threads + Wait + Sync>(
     shown: &mut Shown,
 ) -> Result<(), Failed> {
     let scenario = scenario_in(alloc, text)?;
-    let played = play_scripted(rt, alloc, &scenario.value)?;
+    let driver = ByFetches { fetcher: OverLink };
+    let played = play_scripted(rt, &driver, alloc, &scenario.value)?;
     shown.add(b"requests\n");
     for transcript in played.transcripts.as_slice() {
         show_reports(alloc, &scenario.value, transcript, shown)?;

@@ -1,5 +1,7 @@
 // Runs of the programs' top calls over streams in memory. Of each the number of its status is shown.
 use link_traits::{FixedClock, Links};
+use play_documents::ByFetches;
+use play_fetch::OverLink;
 use program_cspreport::cspreport;
 use program_fetchplay::fetchplay;
 use program_playaudit::playaudit;
@@ -21,6 +23,7 @@ pub(crate) fn play<R: Threads + Wait + Sync, N: Links>(
 ) {
     let status = fetchplay(
         rt,
+        &ByFetches { fetcher: OverLink },
         alloc,
         words,
         &mut streams.input.value,

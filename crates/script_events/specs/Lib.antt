@@ -1,8 +1,1 @@
-pub mod Calls
 pub mod Endings
-pub mod Escapes
-pub mod Kept
-pub mod Laws
-pub mod Lengths
-pub mod Lines
-pub mod Words

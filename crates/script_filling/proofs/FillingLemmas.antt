@@ -1,6 +1,6 @@
 -- Texts without placeholders, and URLs, header values and bodies that are cut.
 use Rattle.std.proofs.Common.{◌≡◌, ℕ, ◌+◌, ◌≤◌, ◌<◌, Bool, true, false, cond, List, [], ◌∷◌, ◌++◌, length, take}
-use Rattle.std.proofs.Common.{Option, Some, None, refl, ap, sym, subst, inl, inr, ◌∙◌, arith, take_all}
+use Rattle.std.proofs.Common.{Option, Some, None, Result, Ok, Err, refl, ap, sym, subst, inl, inr, ◌∙◌, arith, take_all}
 use Rattle.std.proofs.lemmas.Bool.{or_parts}
 use Rattle.std.proofs.lemmas.List.{append-nil, length-take, take-append-le}
 use Rattle.std.proofs.lemmas.List.Sums.{sum_by-cons}
@@ -10,7 +10,7 @@ use Rattle.value_requests.specs.declared.client.Client.{Client}
 use Rattle.value_requests.specs.declared.fault.TypeFault.{TypeFault}
 use Rattle.value_requests.specs.declared.fault.TypeFault.TheVariants.{UrlCredentials, BadMethod, ForbiddenMethod}
 use Rattle.value_requests.specs.declared.fault.TypeFault.TheVariants.{BodyWithGet}
-use Rattle.value_requests.specs.declared.fault.TypeFault.TheVariants.{NoCorsMethod, BadHeader, NavigateMode, TooLong}
+use Rattle.value_requests.specs.declared.fault.TypeFault.TheVariants.{NoCorsMethod, BadHeader, LongUrl, NavigateMode, TooLong}
 use Rattle.value_requests.specs.declared.init.Init.{Init}
 use Rattle.value_requests.specs.declared.init.LoadInit.{LoadInit}
 use Rattle.value_requests.specs.declared.init.Pair.{Pair}
@@ -25,7 +25,7 @@ use Rattle.fetch_requests.specs.Loading.{load_for, new_load}
 use Rattle.std.specs.Bool.{then_some}
 use Rattle.value_requests.specs.Urls.{unless_long, url_against}
 use Rattle.fetch_requests.specs.Making.{first_bad, given_size, is_navigate, is_no_cors, is_too_long, pair_size}
-use Rattle.fetch_requests.specs.Making.{url_given}
+use Rattle.fetch_requests.specs.Making.{or_bad_url, url_given}
 use Rattle.script_scenarios.specs.Pieces.{pieces_behind}
 use Rattle.script_scenarios.specs.Templates.{filled, opens, pieces, placed}
 use Rattle.value_text.specs.Pieces.{with_front}
@@ -268,10 +268,10 @@ made-by client init url true long =
 made-by client init url false short =
     ap (λ (i : Init). fault_or (first_fault (faults i url)) (made client i url)) (uncut init short)
 
-by-url : (client : Client) (init : Init) (url : Option Parts)
+by-url : (client : Client) (init : Init) (url : Result Parts TypeFault)
     → request_for client (with_cuts init) url ≡ request_for client init url
-by-url client init None = refl
-by-url client init (Some url) = made-by client init url (is_too_long init) refl
+by-url client init (Err fault) = refl
+by-url client init (Ok url) = made-by client init url (is_too_long init) refl
 
 -- the request, or its fault, is the same where headers and body are cut
 cuts-same : (client : Client) (init : Init) → new_request client (with_cuts init) ≡ new_request client init
@@ -295,17 +295,17 @@ url-by client text true long =
     let cut : length (take 786433 text) ≡ min 786433 (length text) = length-take 786433 text in
     let still : nat_lt 786432 (length (take 786433 text)) ≡ true =
     too-long-url (length (take 786433 text)) (omega (arith, cut, long-url (length text) long)) in
-    ap (λ (b : Bool). cond b None (unless_long (url_against client.url (take 786433 text)))) still
-    ∙ sym (ap (λ (b : Bool). cond b None (unless_long (url_against client.url text))) long)
+    ap (λ (b : Bool). cond b (Err LongUrl) (or_bad_url (unless_long (url_against client.url (take 786433 text))))) still
+    ∙ sym (ap (λ (b : Bool). cond b (Err LongUrl) (or_bad_url (unless_long (url_against client.url text)))) long)
 
 url-same : (client : Client) (text : List ℕ) → url_given client (cut_url text) ≡ url_given client text
 url-same client text = url-by client text (nat_lt 786432 (length text)) refl
 
 -- the text of the URL counts for nothing else
-url-aside : (client : Client) (init : Init) (text : List ℕ) (url : Option Parts)
+url-aside : (client : Client) (init : Init) (text : List ℕ) (url : Result Parts TypeFault)
     → request_for client (record init { url = text }) url ≡ request_for client init url
-url-aside client init text None = refl
-url-aside client init text (Some url) = refl
+url-aside client init text (Err fault) = refl
+url-aside client init text (Ok url) = refl
 
 -- the request, or its fault, is the same where URL, headers and body are cut
 pub cut-same : (client : Client) (init : Init) → new_request client (with_all_cuts init) ≡ new_request client init
@@ -314,10 +314,10 @@ cut-same client init =
     ∙ ap (request_for client (with_cuts init)) (url-same client init.url)
     ∙ cuts-same client init
 
-load-aside : (client : Client) (init : LoadInit) (text : List ℕ) (url : Option Parts)
+load-aside : (client : Client) (init : LoadInit) (text : List ℕ) (url : Result Parts TypeFault)
     → load_for client (record init { url = text }) url ≡ load_for client init url
-load-aside client init text None = refl
-load-aside client init text (Some url) = refl
+load-aside client init text (Err fault) = refl
+load-aside client init text (Ok url) = refl
 
 pub load-same : (client : Client) (init : LoadInit) → new_load client (with_url_cut init) ≡ new_load client init
 load-same client init =

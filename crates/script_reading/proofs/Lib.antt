@@ -1,6 +1,3 @@
 pub mod AnswerLemmas
 pub mod ValidLemmas
-pub mod MigrationLemmas
-pub mod Computed
-pub mod GeneratedLemmas
 pub mod HeaderLemmas

@@ -45,8 +45,8 @@ fn put_status_line(text: &mut Vec<u8>, status: &[u8]) -> Result<(), OutOfMemory>
     Ok(())
 }
 
-// The bytes of an answer: the status line, each header on its line, an empty line and the body.
-pub(crate) fn answer_bytes(
+/// The bytes of an answer: the status line, each header on its line, an empty line and the body.
+pub fn answer_bytes(
     alloc: Global,
     status: u64,
     headers: &[Pair],

@@ -11,7 +11,7 @@ use value_json::{Number, Refused, Tree, optional};
 
 /// The format of a scenario.
 #[derive(Clone, Copy, Debug)]
-pub(crate) enum Format {
+pub enum Format {
     First,
     Second,
 }

@@ -1,14 +1,12 @@
-// Scenarios, read from bytes, and the generated one.
+// Scenarios, read from bytes.
 #![tactic(auto)]
 
 mod answers;
 mod cookies;
 mod documents;
 mod format;
-mod generated;
 mod headers;
 mod hosts;
-mod laws;
 mod place;
 mod read;
 mod routes;
@@ -16,7 +14,7 @@ mod servers;
 mod texts;
 mod urls;
 
-pub use generated::generate;
-pub use laws::{law_addresses, law_migrated};
+pub use answers::answer_bytes;
+pub use format::Format;
 pub use place::Place;
 pub use read::read_scenario;

@@ -7,7 +7,7 @@ use Rattle.std.proofs.lemmas.List.Sums.{sum_by-append}
 use Rattle.std.proofs.lemmas.Option.{slice_get-get_or}
 use Rattle.std.proofs.Math.ListN.{get_or-append}
 use Rattle.std.specs.Prelude.{◌-◌, ◌^◌, min, slice_get, cond}
-use Rattle.script_events.specs.Lengths.{capped, event_length}
+use Rattle.script_lines.specs.Lengths.{capped, event_length}
 use Rattle.script_runs.specs.Runs.{text_length}
 use Rattle.std.specs.Option.{option_or}
 use Rattle.script_events.specs.declared.events.Event.{Event}

@@ -1,4 +1,3 @@
-pub mod Computed
 pub mod DocumentLemmas
 pub mod EmbedLemmas
 pub mod LastLemmas

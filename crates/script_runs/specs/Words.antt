@@ -13,7 +13,7 @@ pub use Rattle.fetch_requests.specs.Making.{new_request}
 pub use Rattle.policy_csp_text.specs.declared.policy.Policy.{Policy}
 pub use Rattle.script_scenarios.specs.Scripts.{Step, Steps}
 pub use Rattle.script_scenarios.specs.declared.command.Test.{Test}
-pub use Rattle.script_events.specs.Lengths.{event_length}
+pub use Rattle.script_lines.specs.Lengths.{event_length}
 pub use Rattle.script_events.specs.declared.events.Ending.{Ending}
 pub use Rattle.script_events.specs.declared.events.Ending.TheVariants.{Commands, Fetches, Finished, Text}
 pub use Rattle.script_events.specs.declared.events.Event.{Event}

@@ -8,8 +8,9 @@ ghost use Rattle.script_runs.specs.Private.Lasts.{last_index};
 
 use book_calls::Reply;
 use fetch_acts::{Act, Input};
-use script_events::{Event, Events, event_len};
+use script_events::{Event, Events};
 use script_filling::is_result;
+use script_lines::event_len;
 use std::alloc::Global;
 use std::marker::Model;
 use value_bytes::OutOfMemory;
@@ -28,7 +29,7 @@ pub struct Shown {
 
 impl Model for Shown {
     ghost use Rattle.std.specs.Prelude.{◌≡◌, List};
-    ghost use Rattle.script_events.specs.Lengths.{capped};
+    ghost use Rattle.script_lines.specs.Lengths.{capped};
     ghost use Rattle.script_runs.specs.Runs.{text_length};
     ghost use Rattle.script_events.specs.declared.events.Event.{Event};
     ghost use Rattle.script_runs.specs.Private.Lasts.{IsLast};

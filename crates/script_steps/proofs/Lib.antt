@@ -1,3 +1,2 @@
 pub mod StepLemmas
 pub mod ValidLemmas
-pub mod Computed

@@ -1,7 +1,7 @@
 -- The request that a script's `fetch` makes in mode cors: what it takes of its init, and that its headers have no name
 -- that only the user agent sets.
 use Rattle.std.proofs.Common.{◌≡◌, ℕ, Bool, true, false, not, ◌||◌, List, [], ◌∷◌, ◌++◌, Option, Some, None}
-use Rattle.std.proofs.Common.{Ok, codes, refl, ap, sym, subst, ◌∙◌, arith, if◌then◌else◌}
+use Rattle.std.proofs.Common.{Result, Ok, Err, codes, refl, ap, sym, subst, ◌∙◌, arith, if◌then◌else◌}
 use Rattle.std.proofs.lemmas.List.Folds.{list_any-from_Any}
 use Rattle.std.specs.Str.{str_eq_ignore_ascii_case}
 use Rattle.url.specs.Parts.{Parts}
@@ -50,9 +50,9 @@ made-is client init request same = by-url (url_given client init.url) same
     by-fault url None none same = record { url = url; faultless = none; is = cc same }
     by-fault url (Some fault) none same = absurd (cc)
 
-    by-url : (url : Option Parts) → request_for client init url ≡ Ok request → IsMade client init request
-    by-url None same = absurd (cc)
-    by-url (Some url) same = by-fault url (first_fault (faults init url)) refl same
+    by-url : (url : Result Parts TypeFault) → request_for client init url ≡ Ok request → IsMade client init request
+    by-url (Err fault) same = absurd (cc)
+    by-url (Ok url) same = by-fault url (first_fault (faults init url)) refl same
 
 -- ---- its headers
 

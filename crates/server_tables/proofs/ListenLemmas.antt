@@ -9,7 +9,7 @@ use Rattle.std.proofs.lemmas.List.Folds.{list_any_more}
 use Rattle.std.specs.List.{list_any}
 use Rattle.link_traits.proofs.SourceLemmas.{gave-again, gave-nothing}
 use Rattle.httparse.specs.Grammar.{print_request, RequestHead}
-use Rattle.link_traits.specs.Counts.{Rose}
+use Rattle.link_traits.specs.Counts.{one_more}
 use Rattle.link_traits.specs.Sinks.{SinkTold}
 use Rattle.link_traits.specs.Sources.{Gave, SourceTold}
 use Rattle.link_http1.proofs.RequestLemmas.{no-request, request-shortest}
@@ -18,7 +18,7 @@ use Rattle.link_http1.specs.RequestHeads.{BeginsRequest, IsRead}
 use Rattle.link_http1.specs.declared.request_head.Asked.{Asked}
 use Rattle.server_tables.specs.Private.Coming.{Gives, HasBlock, HasCome, HasEnded, HasFailed, HasHeard, IsOver}
 use Rattle.server_tables.specs.Private.Coming.{IsSearched}
-use Rattle.server_tables.specs.Serving.{AskedOn, most_at_once, most_read, peer_told, PeerTold, WasUnheard}
+use Rattle.server_tables.specs.Serving.{AskedOn, RanShort, most_at_once, most_read, peer_told, PeerTold, WasUnheard}
 use Rattle.server_tables.specs.declared.listen.Search.{Search}
 
 -- ---- what a peer gave
@@ -124,6 +124,28 @@ asked-all bytes none = record {
   none = subst (λ (l : List ℕ). IsRead l None) (sym (take_all (length bytes) bytes (omega arith))) none;
 }
 
+-- memory was refused before anything was read
+pub short-at_once : (peer : PeerTold) → RanShort peer peer
+short-at_once peer = record {
+  bytes = [];
+  gave = gave-nothing peer.source.left;
+  few = omega arith;
+  asked_on = asked-all [] none-yet;
+  quiet = refl;
+  sink = refl;
+}
+
+-- or when bytes had come
+pub short-come : (a b : PeerTold) (bytes : List ℕ) (found : Bool) → HasCome a b bytes found → RanShort a b
+short-come a b bytes found came = record {
+  bytes = bytes;
+  gave = came.gives.gave;
+  few = came.few;
+  asked_on = came.asked_on;
+  quiet = came.quiet;
+  sink = came.gives.sink;
+}
+
 -- a block ended in the bytes that decide
 module _ (bytes rest : List ℕ) (n : ℕ) (ends : is_block (take n bytes) ≡ true) (printed : RequestHead)
     (begins : BeginsRequest (bytes ++ rest) printed) where
@@ -177,7 +199,7 @@ unheard-after a b c bytes found n came is none same failed =
       gave = gives.gave;
       few = omega (arith, length-append bytes failed.rest, failed.few, same);
       none = never-comes bytes failed.rest (came.block is) none;
-      cause = subst (λ (count : ℕ). Rose count c.source.faults) came.quiet failed.cause;
+      cause = failed.cause ∙ ap one_more came.quiet;
       sink = gives.sink;
     }
 

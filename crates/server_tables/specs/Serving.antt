@@ -1,8 +1,8 @@
 -- What serving one peer comes to: what was read of it, and what was written to it.
 use Rattle.std.specs.Prelude.{◌≡◌, ℕ, ◌+◌, ◌≤◌, ◌⊎◌, List, length, take, Option, Some, None}
 use Rattle.value_text.specs.Texts.{Text}
-use Rattle.link_traits.specs.Counts.{Rose}
-use Rattle.link_traits.specs.Sinks.{SinkTold, Took, TookPart}
+use Rattle.link_traits.specs.Counts.{one_more}
+use Rattle.link_traits.specs.Sinks.{FailedOnce, NeverFailed, SinkTold, Took, TookPart}
 use Rattle.link_traits.specs.Sources.{Gave, IsAtEnd, SourceTold}
 use Rattle.link_http1.specs.RequestHeads.{IsRead}
 use Rattle.link_http1.specs.declared.request_head.Asked.{Asked}
@@ -22,10 +22,6 @@ pub record PeerTold : Type 0 where
 
 abbrev pub peer_told : {P : Type 0} → (P → SourceTold) → (P → SinkTold) → P → PeerTold
 peer_told gives takes peer = record { source = gives peer; sink = takes peer }
-
--- a sink failed, or took nothing of a piece that is not empty
-abbrev pub Failed : SinkTold → SinkTold → Type 0
-Failed old new = Rose old.faults new.faults ⊎ Rose old.zeros new.zeros
 
 -- the bytes read suffice: they have a request head, or are all that the source had, or as many as are read at most
 abbrev pub Suffice : Option Text → Text → Type 0
@@ -49,7 +45,7 @@ pub record Heard (old new : SourceTold) (bytes : Text) : Type 0 where
   pub asked_on : AskedOn bytes
   pub quiet : new.faults ≡ old.faults
 
--- the reply to the bytes read was written whole
+-- the reply to the bytes read was written whole, and no write failed
 pub record Answered (table : List Row) (old new : PeerTold) (status : ℕ) : Type 0 where
   pub bytes : Text
   pub heard : Heard old.source new.source bytes
@@ -57,6 +53,7 @@ pub record Answered (table : List Row) (old new : PeerTold) (status : ℕ) : Typ
   pub is_reply : IsReply table bytes reply
   pub status_is : status ≡ reply.status
   pub took : Took old.sink.taken new.sink.taken (reply_bytes reply)
+  pub quiet : NeverFailed old.sink new.sink
 
 -- the reply to the bytes read was not written whole: the sink failed, or took nothing of a piece
 pub record WasCut (table : List Row) (old new : PeerTold) : Type 0 where
@@ -65,7 +62,7 @@ pub record WasCut (table : List Row) (old new : PeerTold) : Type 0 where
   pub answer : Text
   pub is_served : IsServed table bytes answer
   pub took : TookPart old.sink.taken new.sink.taken answer
-  pub cause : Failed old.sink new.sink
+  pub cause : FailedOnce old.sink new.sink
 
 -- the source failed before a request head had come, and nothing was written
 pub record WasUnheard (old new : PeerTold) : Type 0 where
@@ -73,14 +70,16 @@ pub record WasUnheard (old new : PeerTold) : Type 0 where
   pub gave : Gave old.source.left new.source.left bytes
   pub few : length bytes ≤ most_read
   pub none : IsRead bytes None
-  pub cause : Rose old.source.faults new.source.faults
+  pub cause : new.source.faults ≡ one_more old.source.faults
   pub sink : new.sink ≡ old.sink
 
--- memory was refused, and nothing was written
+-- memory was refused, no more was asked for than had to be, no read failed, and nothing was written
 pub record RanShort (old new : PeerTold) : Type 0 where
   pub bytes : Text
   pub gave : Gave old.source.left new.source.left bytes
   pub few : length bytes ≤ most_read
+  pub asked_on : AskedOn bytes
+  pub quiet : new.source.faults ≡ old.source.faults
   pub sink : new.sink ≡ old.sink
 
 abbrev pub IsServing : List Row → PeerTold → PeerTold → Served → Type 0

@@ -6,4 +6,3 @@ mod TakenLemmas
 mod DocumentLemmas
 pub mod ReadingLemmas
 pub mod KeepsLemmas
-pub mod FollowsLemmas

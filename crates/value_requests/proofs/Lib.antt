@@ -1,4 +1,3 @@
-pub mod Computed
 pub mod TextLemmas
 pub mod UrlLemmas
 pub mod TargetLemmas

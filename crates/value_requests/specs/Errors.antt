@@ -63,6 +63,7 @@ fault_label fault.NoCorsMethod = label 6 (codes "NoCorsMethod")
 fault_label (fault.BadHeader index) = label 7 (codes "BadHeader")
 fault_label fault.NavigateMode = label 8 (codes "NavigateMode")
 fault_label fault.TooLong = label 9 (codes "TooLong")
+fault_label fault.LongUrl = label 10 (codes "LongUrl")
 
 -- the number of a fault
 abbrev pub fault_number : TypeFault → ℕ

@@ -4,7 +4,7 @@ ghost use Rattle.value_requests.specs.Errors.{fault_number, fault_name};
 
 /// Why a request could not be made of what a script asked for: the faults of the constructor of a
 /// request and of `fetch` (Fetch, sections 5.4 and 5.6). `BadHeader` has the index of the first bad
-/// header.
+/// header. `TooLong` and `LongUrl` are this project's limits.
 #[derive(Clone, Copy, Debug, PartialEq, Eq)]
 pub enum TypeFault {
     BadUrl,
@@ -16,6 +16,7 @@ pub enum TypeFault {
     BadHeader(u32),
     NavigateMode,
     TooLong,
+    LongUrl,
 }
 
 impl TypeFault {
@@ -34,6 +35,7 @@ impl TypeFault {
             TypeFault::BadHeader(_) => (7, "BadHeader"),
             TypeFault::NavigateMode => (8, "NavigateMode"),
             TypeFault::TooLong => (9, "TooLong"),
+            TypeFault::LongUrl => (10, "LongUrl"),
         }
     }
 

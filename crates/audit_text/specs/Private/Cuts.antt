@@ -3,7 +3,7 @@ use Rattle.std.specs.Prelude.{◌≡◌, ◌≢◌, ℕ, ◌+◌, ◌≤◌, Lis
 use Rattle.std.specs.List.{All}
 use Rattle.value_text.specs.Texts.{Text}
 use Rattle.book_calls.specs.declared.entry.Entry.{Entry}
-use Rattle.script_events.specs.Lines.{line}
+use Rattle.script_lines.specs.Lines.{line}
 use Rattle.audit_text.specs.declared.history.Reading.{Reading}
 use Rattle.audit_text.specs.declared.history.Reading.TheVariants.{Entries, Fault}
 use Rattle.audit_text.specs.Entries.{IsLineOf}

@@ -1,6 +1,6 @@
 -- The next connection.
 use Rattle.std.specs.Prelude.{◌≡◌, List, [], ◌∷◌}
-use Rattle.link_traits.specs.Counts.{Rose}
+use Rattle.link_traits.specs.Counts.{one_more}
 use Rattle.server_tables.specs.Serving.{PeerTold}
 use Rattle.server_tables.specs.declared.serving.Served.{Served}
 use Rattle.server_tables.specs.declared.table.Row.{Row}
@@ -16,7 +16,7 @@ pub record HasServedNext {End : Type 0} (told : End → PeerTold) (table : List 
 
 -- There was none.
 pub record HasNoNext {End : Type 0} (old new : AcceptsTold End) : Type 0 where
-  pub cause : Rose old.faults new.faults
+  pub cause : new.faults ≡ one_more old.faults
   pub coming_is : new.coming ≡ old.coming
   pub lent_is : new.lent ≡ old.lent
   pub opened_is : new.opened ≡ old.opened

@@ -1,7 +1,6 @@
 -- What comes of writing the line of a connection.
-use Rattle.std.specs.Prelude.{◌≡◌, ◌≤◌}
-use Rattle.link_traits.specs.Sinks.{SinkTold, Took, TookPart}
-use Rattle.program_shell.specs.Sinks.{Failed}
+use Rattle.std.specs.Prelude.{◌≡◌}
+use Rattle.link_traits.specs.Sinks.{FailedOnce, NeverFailed, SinkTold, Took, TookPart}
 use Rattle.server_tables.specs.declared.serving.Served.{Served}
 use Rattle.server_tables.specs.declared.serving.Served.TheVariants as served
 use Rattle.program_corsserve.specs.Connections.{line_of}
@@ -12,13 +11,12 @@ use Rattle.server_tables.specs.declared.read.BadLine.{BadLine}
 -- the line was written whole
 pub record HasWritten (old new : SinkTold) (served : Served) : Type 0 where
   pub took : Took old.taken new.taken (line_of served)
-  pub faults : old.faults ≤ new.faults
-  pub zeros : old.zeros ≤ new.zeros
+  pub whole : NeverFailed old new
 
 -- a part of it was written
 pub record HasFailed (old new : SinkTold) (served : Served) : Type 0 where
   pub took : TookPart old.taken new.taken (line_of served)
-  pub failed : Failed old new
+  pub failed : FailedOnce old new
 
 abbrev pub IsWritten : SinkTold → SinkTold → Served → Status BadLine → Type 0
 IsWritten old new served status.Ok = HasWritten old new served

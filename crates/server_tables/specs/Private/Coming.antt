@@ -2,7 +2,7 @@
 use Rattle.std.specs.Prelude.{◌≡◌, ℕ, ◌≤◌, ◌+◌, ◌⊎◌, Bool, true, false, List, length, take, Option}
 use Rattle.std.specs.List.{list_any}
 use Rattle.value_text.specs.Texts.{Text}
-use Rattle.link_traits.specs.Counts.{Rose}
+use Rattle.link_traits.specs.Counts.{one_more}
 use Rattle.link_traits.specs.Sources.{Gave, IsAtEnd}
 use Rattle.link_http1.specs.Blocks.{is_block, is_line_byte}
 use Rattle.link_http1.specs.RequestHeads.{IsRead}
@@ -60,7 +60,7 @@ pub record HasFailed (old new : PeerTold) (before : ℕ) : Type 0 where
   pub rest : Text
   pub gives : Gives old new rest
   pub few : before + length rest ≤ most_read
-  pub cause : Rose old.source.faults new.source.faults
+  pub cause : new.source.faults ≡ one_more old.source.faults
 
 -- a request was heard, and what it asks was read of it
 pub record HasHeard (old new : PeerTold) (asked : Option Asked) : Type 0 where

@@ -1,5 +1,5 @@
 use Rattle.std.proofs.Common.{◌≡◌, ◌≢◌, ◌∙◌, ap, List}
-use Rattle.play_isolation.specs.Laws.{CallsFollow}
+use Rattle.play_laws.specs.Once.{CallsFollow}
 use Rattle.script_events.specs.declared.events.Ending.TheVariants.{Memory}
 use Rattle.script_scenarios.specs.declared.servers.Server.{Server}
 use Rattle.audit_replay.specs.Tapes.{Tape}

@@ -1,6 +1,6 @@
 use Rattle.std.proofs.Common.{◌≡◌, true, sym, ◌∙◌}
 use Rattle.std.specs.List.{list_all}
-use Rattle.script_events.specs.Escapes as spec
+use Rattle.script_lines.specs.Escapes as spec
 use Rattle.play_text.proofs.EscapeLemmas.{escaped-all_plain}
 use Rattle.play_text.proofs.escape.add_block.Goals as goal
 

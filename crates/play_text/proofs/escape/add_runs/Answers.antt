@@ -1,6 +1,6 @@
 use Rattle.std.proofs.Common.{◌++◌, ◌∙◌, sym, ap, length, refl}
 use Rattle.std.proofs.lemmas.List.Sums.{prefix_len-le-length}
-use Rattle.script_events.specs.Escapes as spec
+use Rattle.script_lines.specs.Escapes as spec
 use Rattle.play_text.proofs.AppendLemmas.{one_added}
 use Rattle.play_text.proofs.EscapeLemmas.{escaped_run, escaped_plain}
 use Rattle.play_text.proofs.escape.add_runs.Goals as goal

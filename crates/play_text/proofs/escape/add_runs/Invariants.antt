@@ -1,5 +1,5 @@
 use Rattle.std.proofs.Common.{◌≡◌, ◌++◌, length}
-use Rattle.script_events.specs.Escapes as spec
+use Rattle.script_lines.specs.Escapes as spec
 use Rattle.play_text.proofs.escape.add_runs.Given as goal
 
 abbrev pub invariant-loop-byte : goal.invariant-loop-byte

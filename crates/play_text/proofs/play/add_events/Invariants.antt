@@ -1,6 +1,6 @@
 use Rattle.std.proofs.Common.{◌≡◌, ◌++◌, drop}
 use Rattle.std.specs.List.{flat_map}
-use Rattle.script_events.specs.Lines as spec
+use Rattle.script_lines.specs.Lines as spec
 use Rattle.play_text.proofs.play.add_events.Given as goal
 
 abbrev pub invariant-loop-event : goal.invariant-loop-event

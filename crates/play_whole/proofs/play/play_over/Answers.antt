@@ -2,11 +2,11 @@ use Rattle.std.proofs.lemmas.Result.{on_err_weaker}
 use Rattle.fetch_wire.specs.Wires.{over_link}
 use Rattle.play_definitions.proofs.WorldLemmas.{on-err}
 use Rattle.play_definitions.specs.Plays.{IsPlayOver}
-use Rattle.play_whole.specs.Links.{IsPlayOverLinks}
+use Rattle.play_links.specs.Links.{IsPlayOverLinks}
 use Rattle.play_seats.specs.Makers.{maker_of}
-use Rattle.play_whole.specs.Private.Seated.{AreUnseated}
+use Rattle.play_links.specs.Unseated.{AreUnseated}
 use Rattle.play_definitions.specs.declared.played.Played.{Played}
-use Rattle.play_whole.proofs.OverLemmas.{opening-refused, played-over, played-refused}
+use Rattle.play_links.proofs.OverLemmas.{opening-refused, played-over, played-refused}
 use Rattle.play_seats.proofs.ListLemmas.{if-ok-map}
 use Rattle.play_whole.proofs.play.play_over.Goals as goal
 

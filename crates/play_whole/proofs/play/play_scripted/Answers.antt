@@ -1,12 +1,12 @@
 use Rattle.std.proofs.Common.{Some, ap, refl}
 use Rattle.play_seats.specs.Sim.{SimState, fault_count, not_lent}
 use Rattle.play_seats.specs.Makers.{Maker}
-use Rattle.play_whole.specs.Links.{IsPlayOverLinks}
+use Rattle.play_links.specs.Links.{IsPlayOverLinks}
 use Rattle.play_definitions.specs.Plays.{IsPlay}
 use Rattle.play_definitions.specs.declared.played.Played.{Played}
 use Rattle.play_seats.proofs.ServerLemmas.{by_bytes, sim_told}
 use Rattle.play_seats.proofs.ListLemmas.{if-ok-map}
-use Rattle.play_whole.proofs.StandingLemmas.{scripted-play}
+use Rattle.play_links.proofs.StandingLemmas.{scripted-play}
 use Rattle.play_whole.proofs.play.play_scripted.Goals as goal
 
 pub returns-clause-played : goal.returns-clause-played

@@ -6,7 +6,7 @@ use Rattle.play_definitions.specs.Plays.{opening_book}
 use Rattle.fetch_wire.specs.Wires.{over_link}
 use Rattle.play_seats.specs.Seated.{links_in, passes_in}
 use Rattle.play_seats.proofs.ClosedLemmas.{whole-passes}
-use Rattle.play_whole.proofs.PlayLemmas.{closed-play, closed-played, closed-refused}
+use Rattle.play_links.proofs.PlayLemmas.{closed-play, closed-played, closed-refused}
 use Rattle.play_seats.proofs.SeatedLemmas.{belong-at, belong-passes, documents-in, many-links, ready-seats}
 use Rattle.play_whole.proofs.play.play_seated.Goals as goal
 

@@ -1,4 +1,4 @@
-use Rattle.std.proofs.Common.{[], arith, sym, subst}
+use Rattle.std.proofs.Common.{[], arith, refl, sym, subst}
 use Rattle.link_traits.proofs.SinkLemmas.{took-nothing}
 use Rattle.server_tables.specs.Serving.{peer_told}
 use Rattle.server_tables.specs.declared.serving.Served.{Served}
@@ -33,6 +33,8 @@ returns-in-Err g c =
           (accepts_told g.A.Accepts.opened g.A.Accepts.coming g.A.Accepts.lent g.A.Accepts.faults
           c.serve_next.new.accepts)
           none.coming_is none.lent_is none.opened_is;
+      lines = tt;
       took = took-nothing (g.K.Sink.takes c.args.output.now).taken;
+      whole = (refl, refl);
       cause = none.cause;
     }

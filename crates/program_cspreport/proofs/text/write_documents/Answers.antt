@@ -1,8 +1,15 @@
 use Rattle.std.proofs.Common.{◌+◌, ◌∙◌, arith, drop}
-use Rattle.play_text.proofs.WriteLemmas.{writes-append, writes-before, writes-failed, writes-nothing}
+use Rattle.play_text.proofs.WriteLemmas.{writes-append, writes-before, writes-failed, writes-nothing, writes-refused}
 use Rattle.program_cspreport.specs.Text.{documents_text}
 use Rattle.program_cspreport.proofs.TextLemmas.{documents-end, documents-next}
 use Rattle.program_cspreport.proofs.text.write_documents.Goals as goal
+
+pub returns-in_err-text : goal.returns-in_err-text
+returns-in_err-text g c =
+    c.loop-index.invariant _ _
+    (writes-refused
+    (documents_text (drop c.loop-index.index c.args.transcripts.now) (drop c.loop-index.index c.args.delivereds.now))
+    c.from_residual.result c.from_residual.ensures.1 writes-nothing)
 
 pub returns-in_err-write_text : goal.returns-in_err-write_text
 returns-in_err-write_text g c =

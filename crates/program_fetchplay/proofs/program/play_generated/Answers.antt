@@ -7,7 +7,6 @@ use Rattle.program_fetchplay.proofs.program.play_generated.Goals as goal
 pub returns : goal.returns
 returns g c =
     let played = c.in-Ok.played in
-    let told = c.write_summary-written.ensures in
     rw c.status_of.ensures
     (inr (text-written (IsSummary c.args.count) (summary_text c.args.count played.transcripts played.history)
     (g.K.Sink.takes c.args.output.now) (g.K.Sink.takes c.write_summary-written.new.sink)
@@ -18,11 +17,4 @@ returns g c =
       play = c.in-Ok.ensures.played;
       text_is = refl;
     })
-    (record {
-      ok = told.ok;
-      err = told.err;
-      faults_stay = told.faults;
-      zeros_stay = told.zeros;
-      fault = told.fault;
-      nothing = told.nothing;
-    })))
+    c.write_summary-written.ensures))

@@ -4,10 +4,10 @@ use Rattle.program_shell.proofs.writing.write_line.Goals as goal
 
 pub returns-in-Err-clause-err : goal.returns-in-Err-clause-err
 returns-in-Err-clause-err g c =
-    part-before (g.K.Sink.takes c.args.sink.now).taken (g.K.Sink.takes c.write_text.new.sink).taken c.args.head.now
+    part-before (g.K.Sink.takes c.args.sink.now).taken (g.K.Sink.takes c.write_whole.new.sink).taken c.args.head.now
     (c.args.detail.now ++ codes "\n") c.in-Err.ensures.err
 
 pub returns-clause-err : goal.returns-clause-err
 returns-clause-err g c = err-after c.write_two.result (g.K.Sink.takes c.args.sink.now).taken
-    (g.K.Sink.takes c.write_text.new.sink).taken (g.K.Sink.takes c.write_two.new.sink).taken c.args.head.now
+    (g.K.Sink.takes c.write_whole.new.sink).taken (g.K.Sink.takes c.write_two.new.sink).taken c.args.head.now
     (c.args.detail.now ++ codes "\n") c.in_default.ensures.ok c.write_two.ensures.err

@@ -3,10 +3,10 @@ use Rattle.program_shell.proofs.writing.write_two.Goals as goal
 
 pub returns-in-Err-clause-err : goal.returns-in-Err-clause-err
 returns-in-Err-clause-err g c =
-    part-before (g.K.Sink.takes c.args.sink.now).taken (g.K.Sink.takes c.write_text.new.sink).taken c.args.first.now
+    part-before (g.K.Sink.takes c.args.sink.now).taken (g.K.Sink.takes c.write_whole.new.sink).taken c.args.first.now
     c.args.second.now c.in-Err.ensures.err
 
 pub returns-clause-err : goal.returns-clause-err
-returns-clause-err g c = err-after c.write_text-2.result (g.K.Sink.takes c.args.sink.now).taken
-    (g.K.Sink.takes c.write_text.new.sink).taken (g.K.Sink.takes c.write_text-2.new.sink).taken c.args.first.now
-    c.args.second.now c.in_default.ensures.ok c.write_text-2.ensures.err
+returns-clause-err g c = err-after c.write_whole-2.result (g.K.Sink.takes c.args.sink.now).taken
+    (g.K.Sink.takes c.write_whole.new.sink).taken (g.K.Sink.takes c.write_whole-2.new.sink).taken c.args.first.now
+    c.args.second.now c.in_default.ensures.ok c.write_whole-2.ensures.err

@@ -3,7 +3,7 @@ use Rattle.std.proofs.lemmas.List.{length-map}
 use Rattle.book_calls.specs.declared.book.Book.{Book}
 use Rattle.play_definitions.specs.Plays.{opening_book}
 use Rattle.fetch_wire.specs.Wires.{over_link}
-use Rattle.play_whole.proofs.PlayLemmas.{closed-play}
+use Rattle.play_links.proofs.PlayLemmas.{closed-play}
 use Rattle.play_seats.specs.Seated.{passes_in}
 use Rattle.play_seats.proofs.ClosedLemmas.{whole-passes}
 use Rattle.play_seats.proofs.SeatedLemmas.{as-many, belong-at, belong-passes, documents-in, ready-seats}

@@ -3,10 +3,22 @@ use Rattle.std.specs.Prelude.{IfErr, IfOk}
 use Rattle.link_http1.specs.RequestHeads.{IsRead}
 use Rattle.server_tables.specs.Private.Coming.{HasHeard, Stopped}
 use Rattle.server_tables.specs.Serving.{peer_told}
-use Rattle.server_tables.proofs.ListenLemmas.{heard-later, heard-now, none-read, unheard-after}
+use Rattle.server_tables.proofs.ListenLemmas.{heard-later, heard-now, none-read, short-at_once, short-come}
+use Rattle.server_tables.proofs.ListenLemmas.{unheard-after}
 use Rattle.server_tables.proofs.listen.hear.Goals as goal
 use Rattle.server_tables.proofs.listen.hear.Goals.{in-Ok-read_rest, in-Err}
 use Rattle.server_tables.proofs.listen.hear.Goals.{else-found-via-then-found+else-is_none, else-found-via-else-found}
+
+pub returns-in_default-clause-stopped : goal.returns-in_default-clause-stopped
+returns-in_default-clause-stopped g c = λ _.
+    short-at_once (peer_told g.P.Source.gives g.P.Sink.takes c.args.peer.now)
+
+pub returns-in_default-read_request-clause-stopped : goal.returns-in_default-read_request-clause-stopped
+returns-in_default-read_request-clause-stopped g c = λ _.
+    short-come
+    (peer_told g.P.Source.gives g.P.Sink.takes c.args.peer.now)
+    (peer_told g.P.Source.gives g.P.Sink.takes c.read_block.new.peer)
+    c.read_block.new.bytes.items c.in_ok-found.found c.in_ok-found.ensures.came
 
 pub returns-then-is_none-clause-heard : goal.returns-then-is_none-clause-heard
 returns-then-is_none-clause-heard g c =

@@ -25,6 +25,14 @@ returns-in_default-clause-stopped g c =
       bytes = bytes ++ take c.in-Ok.count c.read.new.buf;
       gave = grew.0.gave;
       few = grew.1;
+      asked_on = asked-more bytes (take c.in-Ok.count c.read.new.buf) is.none (omega (
+        arith,
+        length-take c.in-Ok.count c.read.new.buf,
+        c.read.auto.buf,
+        length-take c.min-room.result c.loop-buffer.buffer,
+        c.min-room.ensures,
+      ));
+      quiet = c.in-Ok.ensures.cause.quiet ∙ is.quiet;
       sink = grew.0.sink;
     }
 

@@ -1,0 +1,2 @@
+-- What private contracts alone cite: one act without the network.
+pub mod Acts

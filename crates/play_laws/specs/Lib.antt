@@ -1,0 +1,3 @@
+pub mod Hidden
+pub mod Migration
+pub mod Once

@@ -1,0 +1,4 @@
+pub mod FaultLemmas
+pub mod OverLemmas
+pub mod PlayLemmas
+pub mod StandingLemmas

@@ -1,0 +1,2 @@
+-- What the crate's private contracts alone cite: the documents that were played so far.
+pub mod SoFar

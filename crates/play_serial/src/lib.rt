@@ -1,0 +1,6 @@
+// A play of a scenario over its own servers, one document after another.
+#![tactic(auto)]
+
+mod in_turn;
+
+pub use in_turn::play_in_turn;

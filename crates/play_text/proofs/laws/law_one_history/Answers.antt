@@ -1,5 +1,0 @@
-use Rattle.play_text.proofs.ReadLemmas.{one-history}
-use Rattle.play_text.proofs.laws.law_one_history.Goals as goal
-
-pub returns : goal.returns
-returns c = one-history

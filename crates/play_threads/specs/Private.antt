@@ -1,0 +1,2 @@
+-- What private contracts alone cite: seats in rows.
+pub mod Rows

@@ -1,5 +1,0 @@
-use Rattle.script_reading.proofs.GeneratedLemmas.{address-of_text}
-use Rattle.script_reading.proofs.laws.law_addresses.Goals as goal
-
-pub returns : goal.returns
-returns c = address-of_text

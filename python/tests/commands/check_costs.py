@@ -1,0 +1,36 @@
+"""Checks that nothing that a server answers and no scenario costs more than it is long: each row of
+python/tests/commands/costs_of_answers.py and python/tests/commands/costs_of_scenarios.py, within its seconds of processor time. On a machine that
+is slower than the one where these were set, or shared with others, they are more by as much. It needs python3 (3.9 or
+later). Plays are made by bin/fetchplay, or by the program that FETCHPLAY names."""
+import os
+
+from fiorrudda.commands import running
+from fiorrudda.places import ROOT
+from tests import base
+from tests.commands import costs_of_answers, costs_of_scenarios
+
+
+def setUpModule():
+    """Builds the program where it must be, and then calls it without what looks whether it is new."""
+    if "FETCHPLAY" not in os.environ:
+        running.played(b'{"format":1,"documents":[]}')
+        os.environ["FETCHPLAY"] = os.path.join(ROOT, "crates", "fetchplay", "out", "fetchplay")
+
+
+class Checks(base.Checks):
+    def check_cost(self, name, work, most):
+        slower, began = base.pace(), base.spent()
+        work(self.compare)
+        took, slower = base.spent() - began, max(slower, base.pace())
+        if took > most * slower:
+            self.fault(f"{name}: {took:.1f} s, and at most {most} are allowed, here {most * slower:.1f}")
+
+    def test_costs(self):
+        costs = costs_of_answers.COSTS + costs_of_scenarios.COSTS
+        for name, work, most in costs:
+            self.check_cost(name, work, most)
+        self.counted(f"{len(costs)} costs, each within its seconds")
+
+
+def main():
+    return base.main("commands/check_costs", __name__)
