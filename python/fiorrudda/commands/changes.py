@@ -349,9 +349,9 @@ def with_words(c: Case, words: list[str]) -> list[Edit]:
     return policy_edits(c, more)
 
 
-def by_nonce(c: Case, words: list[str]) -> list[Edit]:
+def by_nonce(c: Case, words: list[str], new: str = "r4nd0m") -> list[Edit]:
     """One nonce at the element and in all policies: a new one where there is none."""
-    value = c.common_nonce or "r4nd0m"
+    value = c.common_nonce or new
     words = words if value in csp.nonces(words) else [*words, f"'nonce-{value}'"]
     more = policy_edits(c, words) if words != c.directive[1] else []
     return more + ([edits.request("nonce", value)] if value != c.nonce else [])
@@ -371,7 +371,8 @@ def add_source_or_nonce(c: Case) -> Ways:
     words = own_words(c)
     is_of_proofs = csp.nonces(words) or {"'strict-dynamic'", "'unsafe-inline'"}.intersection(map(str.lower, words))
     is_new = c.kind in ("script", "style") and not is_of_proofs and not csp.passes(words, c.policy_asked)
-    return add_source(c) + ([by_nonce(c, words)] if is_new else [])
+    own = [c.nonce] if csp.NONCE.fullmatch(f"'nonce-{c.nonce}'") else []
+    return add_source(c) + ([by_nonce(c, words, *own)] if is_new else [])
 
 
 def put_quotes(c: Case) -> Ways:

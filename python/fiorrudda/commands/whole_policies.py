@@ -55,9 +55,11 @@ class Whole(namedtuple("Whole", "policy enforced text value changes mended besid
         for name, words in csp.directives(self.value).items():
             known = before.get(name, before.get("default-src", []))
             found.update({word: None for word in words if is_source(word) and word not in known})
+        if not found:
+            return ""
         more = [f"{len(found) - MOST_NAMED} more"] if len(found) > MOST_NAMED else []
         named = edits.listed([*list(found)[:MOST_NAMED], *more])
-        return f": it lets in {named}; leave out what the page does not mean to load" if found else ""
+        return f": it lets in {named}; leave out what the page does not mean to load"
 
     def sentence(self) -> str:
         if self.header:
