@@ -523,6 +523,31 @@ class Checks(base.Checks):
             in_all = replies.reply_of(answered).in_all
             self.compare(f"{name}: {in_all}", [one.strip().startswith(part) for one in in_all], [False, True])
             self.compare(f"{name}: what was sent", answered.wire.exchanges, [])
+        self.check_led(pair)
+
+    def check_led(self, pair):
+        """What is wanted at the target of a redirect, too, which says `Origin: null` behind a detour (Fetch, section
+        4.4, "HTTP-redirect fetch")."""
+        away, own = b"Location: https://cdn.test/y", b"Access-Control-Allow-Origin: https://shop.test"
+        passing = b"\r\n".join([b"HTTP/1.1 204 No", own, b"Access-Control-Allow-Headers: x-a", b"", b""])
+        led = b"\r\n".join([b"HTTP/1.1 302 Found", own, away, b"Content-Length: 0", b"", b""])
+
+        def at_target(request):
+            return passing.replace(b"x-a", b"x-b") if request.target == "/y" else (
+                passing if request.method == "OPTIONS" else led)
+        asked = ("the answer to OPTIONS at https://cdn.test/y, which is asked with `Origin: null`, needs a status of 200 "
+                 "to 299, `Access-Control-Allow-Origin: *` in place of ")
+        rows = [
+            ("a preflight that is led away", lambda request: led, dict(method="PUT"), 2,
+             f"  in all: where PUT is redirected as OPTIONS is, {asked}any other, `Access-Control-Allow-Methods: PUT`, "
+             "where it does not send that yet"),
+            ("a header that is led away", at_target, dict(header=[("X-A", "1")]), 0,
+             f"  in all: {asked}`https://shop.test`, `Access-Control-Allow-Headers: x-b, x-a` in place of `x-b`"),
+        ]
+        for name, answer, more, number, line in rows:
+            answered = answered_by(answer, pair, "https://api.test/x", page="https://shop.test/", **more)
+            in_all = replies.reply_of(answered).in_all
+            self.compare(f"{name}: {in_all}", in_all[number:number + 1], [line])
 
     def check_brief(self, pair):
         """--brief says what to change, in the verdict or, of several answers, in a line for each; and counts
@@ -541,6 +566,10 @@ class Checks(base.Checks):
             ("an answer that is cut", BEGUN, {}, ["the page would not read all of it: the body ends before the end that "
                                                   "its head announced: 2 bytes came, and Content-Length says 9; send all "
                                                   "of it, and its right length"]),
+            ("a style without its nonce", bare, dict(load="style", policy=["style-src 'nonce-n1'"]),
+             ["the page would not load it: 4 CspRequest: policy 0 has `style-src 'nonce-n1'`, and the element has no "
+              "nonce; give the element the nonce `n1`, made anew for each answer; or let policy 0 say `style-src "
+              "'nonce-n1' https://api.test`"]),
             ("a coded answer without Vary", coded(b"gzip", packed(TEXT, 31)), dict(compressed=True),
              [read, "  1 warning, told without --brief: coding/vary-missing"]),
             ("one with it", coded(b"gzip", packed(TEXT, 31), b"Vary: Accept-Encoding"), dict(compressed=True), [read]),
