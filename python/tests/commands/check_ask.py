@@ -535,8 +535,8 @@ class Checks(base.Checks):
         def at_target(request):
             return passing.replace(b"x-a", b"x-b") if request.target == "/y" else (
                 passing if request.method == "OPTIONS" else led)
-        asked = ("the answer to OPTIONS at https://cdn.test/y, which is asked with `Origin: null`, needs a status of 200 "
-                 "to 299, `Access-Control-Allow-Origin: *` in place of ")
+        asked = ("the answer to OPTIONS at https://cdn.test/y, which is asked with `Origin: null`, needs a status of "
+                 "200 to 299, `Access-Control-Allow-Origin: *` in place of ")
         rows = [
             ("a preflight that is led away", lambda request: led, dict(method="PUT"), 2,
              f"  in all: where PUT is redirected as OPTIONS is, {asked}any other, `Access-Control-Allow-Methods: PUT`, "
