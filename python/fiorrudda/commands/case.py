@@ -38,7 +38,7 @@ CHUNK_LINE = re.compile(rb"([0-9a-fA-F]{1,16})[^\r\n]*\r\n")
 MOST_REDIRECTS = 20
 # As browsers tell it of a fetch.
 FAILS = "; reading it fails in Chromium (%s) and in Firefox (a TypeError)"
-REFUSES = " (in Chromium net::ERR_RESPONSE_HEADERS_MULTIPLE_CONTENT_LENGTH, in Firefox a NetworkError)"
+REFUSES = "in Chromium net::ERR_RESPONSE_HEADERS_MULTIPLE_CONTENT_LENGTH, in Firefox a NetworkError; "
 GZIP = b"\x1f\x8b"
 ARCHIVES = ("gzip", "/octet-stream", "tgz")  # ends of the types of files that are to stay packed
 # Schemes that a browser loads by itself, and this engine does not.

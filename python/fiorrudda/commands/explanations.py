@@ -353,8 +353,8 @@ ANSWERS = [
         "the {c.cut_coding} body is cut{c.but_length}{c.as_measured}", "{c.cutting_header}", "{c.whole_coding}",
         "../why.md#binask"),
     Way("body/two-lengths", "22 23 s", lambda c: c.is_short and len(c.lengths) > 1,
-        "the answer has {c.lengths_told}: both browsers make that a network error{c.as_refused} "
-        "(docs/BROWSERS.md#bytes-on-the-wire)", "Content-Length", "let one of them alone stand there, the right one",
+        "the answer has {c.lengths_told}: both browsers make that a network error "
+        "({c.as_refused}docs/BROWSERS.md#bytes-on-the-wire)", "Content-Length", "let one of them alone stand there, the right one",
         "answers.md#the-body", changes.right_length),
     Way("integrity/incomplete", "22", lambda c: c.is_cut,
         "the body did not come whole", "Content-Length", "send all of it, and its right length", BODY, changes.right_length),
