@@ -186,7 +186,8 @@ class Checks(base.Checks):
         why = case.explanation
         if why is None or not why.chain:
             return False
-        asks = [edit for edit in why.edits if edit.get("set") in ("method", "headers")]
+        # Where a detour took the origin, the first change is another way: the page asks for the last URL itself.
+        asks = [edit for edit in why.edits if edit.get("set") in ("method", "headers")] if why.needs else []
         answers = [edit for one in why.chain for edit in edits_of(one)]
         after = case_of(advice.made(data, case, asks + answers + why.exposing), which)
         is_there = after.verdict == "read" and way_of(after) in (f"cors {after.status}", *advice.UNMADE)
