@@ -366,11 +366,12 @@ def add_source(c: Case) -> Ways:
 
 
 def add_source_or_nonce(c: Case) -> Ways:
-    """The URL's word; or for a script or a style a nonce, where the policy has none yet, and no word that a nonce takes
-    the meaning from ('unsafe-inline')."""
+    """The URL's word; or for a script or a style a nonce, where the policy has none yet, no word that a nonce takes the
+    meaning from ('unsafe-inline'), and no test wants others to be kept out, which asks of URLs without elements."""
     words = own_words(c)
     is_of_proofs = csp.nonces(words) or {"'strict-dynamic'", "'unsafe-inline'"}.intersection(map(str.lower, words))
-    is_new = c.kind in ("script", "style") and not is_of_proofs and not csp.passes(words, c.policy_asked)
+    may_have_one = c.kind in ("script", "style") and not c.kept_out
+    is_new = may_have_one and not is_of_proofs and not csp.passes(words, c.policy_asked)
     own = [c.nonce] if csp.NONCE.fullmatch(f"'nonce-{c.nonce}'") else []
     return add_source(c) + ([by_nonce(c, words, *own)] if is_new else [])
 
