@@ -1,7 +1,8 @@
-"""Decodes br by node, where python3 has no module brotli. Node runs beside bin/ask, gets piece after piece, and makes no
-more than is read of it; it ends with the stream, or with bin/ask, whose time limit holds for it too."""
+"""Decodes br by node, where python3 has no module brotli. Node runs beside bin/ask, gets piece after piece, and makes
+no more than is read of it; it ends with the stream, or with bin/ask, whose time limit holds for it too."""
 from __future__ import annotations
 
+import contextlib
 import functools
 import subprocess
 import weakref
@@ -12,7 +13,8 @@ from fiorrudda.commands.there import there
 if TYPE_CHECKING:
     from collections.abc import Iterator
 
-DATA, TAKEN, WHOLE, CUT, BROKEN = b"dtwcb"  # what node says: bytes that it made, that a piece is taken, and how it ends
+# What node says: bytes that it made, that a piece is taken, and how it ends.
+DATA, TAKEN, WHOLE, CUT, BROKEN = b"dtwcb"
 # It reads a length of four bytes and a piece behind it, until its input ends. What it says is a kind, a length and bytes.
 SCRIPT = """
 const fs = require("node:fs");
@@ -75,8 +77,9 @@ def program() -> str | None:
 def end_process(process: subprocess.Popen[bytes]) -> None:
     process.kill()
     process.wait()
-    there(process.stdin).close()
     there(process.stdout).close()
+    with contextlib.suppress(BrokenPipeError):  # of what it did not take
+        there(process.stdin).close()
 
 
 class NodeBrotli:
@@ -90,7 +93,8 @@ class NodeBrotli:
     def is_over(self) -> bool:
         """Whether all data came; no more of it comes then."""
         if self.end is None:
-            there(self.running().stdin).close()
+            with contextlib.suppress(BrokenPipeError):
+                there(self.running().stdin).close()
             self.end = next(kind for kind, _ in iter(self.said, None) if kind != DATA)
         return self.end == WHOLE
 
@@ -100,8 +104,9 @@ class NodeBrotli:
     def steps(self, data: bytes) -> Iterator[bytes]:
         """What the next bytes stand for, a step at a time."""
         stream = there(self.running().stdin)
-        stream.write(len(data).to_bytes(4, "big") + data)
-        stream.flush()
+        with contextlib.suppress(BrokenPipeError):  # it is gone, which what it says shows
+            stream.write(len(data).to_bytes(4, "big") + data)
+            stream.flush()
         for kind, made in iter(self.said, None):
             if kind == BROKEN:
                 self.end = kind
