@@ -12,6 +12,7 @@
 It needs python3 (3.9 or later), the openssl command, bin/fetchplay, and the library that FIORRUDDA_LIBRARY names or bin/lib
 has left in out/."""
 import base64
+import contextlib
 import hashlib
 import itertools
 import json
@@ -28,7 +29,7 @@ from unittest import mock
 
 import _ctypes
 
-from fiorrudda.commands import answers, ask_words, asked, codings, json_text, live, replies, running
+from fiorrudda.commands import answers, ask_words, asked, codings, json_text, live, node_brotli, replies, running
 from fiorrudda.commands.scenario import Scenario
 from fiorrudda.places import ROOT
 from tests import base, sockets
@@ -230,12 +231,24 @@ def whole_bodies():
         "deflate without its head": coded(b"deflate", packed(TEXT, -15)),
         "deflate and then gzip": coded(b"deflate, gzip", packed(packed(TEXT, 15), 31)),
     }
-    if codings.brotli:
-        rows["br"] = coded(b"br", codings.brotli.compress(TEXT))
+    if codings.decoder("br"):
+        rows["br"] = coded(b"br", stored(TEXT))
     else:
-        print("commands/check_ask: left out, since there is no module brotli (python3-brotli): a body that comes as br",
+        print("commands/check_ask: left out, since there is neither node nor python3-brotli: a body that comes as br",
               file=sys.stderr)
     return rows
+
+
+def stored(data):
+    """A br stream (RFC 7932, section 9.2): a window of 16 bits, a meta-block that is not compressed, and the last, empty
+    one."""
+    return (len(data) - 1 << 4 | 1 << 20).to_bytes(3, "little") + data + b"\x03"
+
+
+@contextlib.contextmanager
+def without_br():
+    with mock.patch.object(codings, "brotli", None), mock.patch.object(node_brotli, "program", lambda: None):
+        yield
 
 
 def told_of(answer, **more):
@@ -393,6 +406,12 @@ class Checks(base.Checks):
 
     def test_known_hosts(self):
         self.check_known_hosts(self.pair)
+
+    def test_books(self):
+        self.check_books(self.pair, self.folder)
+
+    def test_local_networks(self):
+        self.check_local_networks()
 
     def test_several_urls(self):
         self.check_many(self.pair, self.folder)
@@ -829,6 +848,8 @@ class Checks(base.Checks):
         self.check_odd_codings(gzip)
         self.check_framings(gzip)
         self.check_asked_codings(pair)
+        if node_brotli.program():
+            self.check_node()
         self.check_unread(pair, gzip)
         self.check_packed(pair, gzip)
         self.check_undecoded(pair)
@@ -863,12 +884,12 @@ class Checks(base.Checks):
             (b"gzip, gzip", gzip, 1, "change: let Content-Encoding say `gzip` alone: look for a program and a proxy"),
             (b"gzip", packed(gzip, 31), 0, "the body is still gzip once it is decoded: the page gets it packed; compress it"),
             (b"gzip, gzip", packed(gzip, 31), 0, "the body came as gzip, gzip all the same"),
-            (b"br", b"?", 4 if codings.brotli is None else 1, "br"),
+            (b"br", b"?", 4 if codings.decoder("br") is None else 1, "br"),
         ]
         for coding, body, wanted, part in rows:
             status, _, _, told = told_of(coded(coding, body))
             self.compare(f"Content-Encoding {coding}: {told}", (status, part in told), (wanted, True))
-        with mock.patch.object(codings, "brotli", None):
+        with without_br():
             status, _, _, told = told_of(coded(b"br", b"?"))
         parts = ["install Debian's package python3-brotli, or brotli by pip; a browser", "; known without it: the status 200, and "
                  "that CORS, policies and types let it", "change: install python3-brotli and ask again; or for a verdict"]
@@ -908,14 +929,14 @@ class Checks(base.Checks):
             says = "; it was asked for without a coding: --compressed asks as a browser does"
             self.compare(f"{line}: {answered.verdict}", (answered.status(), answered.verdict[1].endswith(says)),
                          (0, is_told))
-        for words, part in [({}, b"identity"), (dict(compressed=True), codings.ACCEPTED.encode())]:
+        for words, part in [({}, b"identity"), (dict(compressed=True), codings.accepted().encode())]:
             sent = []
             def answer(request):
                 sent.append(request.data)
                 return coded(b"identity", TEXT)
             told = told_of(answer, **words)[3]
             self.compare(f"what is sent with {words}: {sent}", [b"\r\nAccept-Encoding: %s\r\n" % part in one for one in sent], [True])
-            says = f"`Accept-Encoding: {codings.ACCEPTED}` (--compressed), the codings that are decoded here, and"
+            says = f"`Accept-Encoding: {codings.accepted()}` (--compressed), the codings that are decoded here, and"
             self.compare(f"what is said of --compressed: {told}",
                          (says in told, "a browser sends this server `gzip, deflate`, and br and zstd over" in told),
                          (words != {}, words != {}))
@@ -924,11 +945,27 @@ class Checks(base.Checks):
         self.compare(f"what is said of --compressed over https: {notes}",
                      [one.endswith(says) for one in notes].count(True), 1)
 
+    def check_node(self):
+        """Where python3 has no module brotli, node decodes br as that does, and no more of it than is read."""
+        zeros = 'process.stdout.write(require("zlib").brotliCompressSync(Buffer.alloc(1 << 26)))'
+        bomb = subprocess.run([node_brotli.program(), "-e", zeros], stdout=subprocess.PIPE, check=True).stdout
+        whole = stored(TEXT)
+        rows = [
+            ("whole", whole, "cors 200", TEXT, 0), ("with bytes behind its end", whole + b"more", "cors 200", TEXT, 0),
+            ("cut", whole[:-9], "body/coding-cut", None, 1), ("none", b"plain text, none of it", "body/not-its-coding", None, 1),
+            ("empty", b"", "cors 200", b"", 0), ("64 MB of zeros", bomb, "seen/body-toobig", None, 0),
+        ]
+        with mock.patch.object(codings, "brotli", None):
+            for name, body, way, read, status in rows:
+                for framing, sent in [(None, body), ([b"Transfer-Encoding: chunked"], in_chunks(body))]:
+                    told = told_of(coded(b"br", sent, framing=framing))
+                    self.compare(f"br by node, {name}: {told[3]}", told[:3], (status, read, way))
+
     def check_undecoded(self, pair):
         """Codings that nothing here decodes are named, with what is to be installed."""
-        with mock.patch.object(codings, "brotli", None):
-            for coding, part in [(b"br", "br is not decoded here, since python3 has no module brotli: install Debian's package "
-                                         "python3-brotli"), (b"zstd", ": zstd is not decoded here; a browser"),
+        with without_br():
+            for coding, part in [(b"br", "br is not decoded here, since there is neither node nor python3's module brotli: "
+                                         "install Debian's package python3-brotli"), (b"zstd", ": zstd is not decoded here; a browser"),
                                  (b"gzip, gzip, gzip, gzip, gzip", "gzip is not decoded here; ")]:
                 answered = answered_by(lambda request: coded(coding, b"?"), pair, "https://api.test/x", page="https://shop.test/")
                 self.compare(f"a coding that nothing here decodes: {coding}: {answered.verdict}",
@@ -1188,6 +1225,42 @@ class Checks(base.Checks):
             reply = replies.replied(given("http://api.test/x", hsts=[(host, False)]), "http://api.test/x")
             self.compare(f"--hsts {host}: {reply.verdict}", (reply.status, "--hsts" in reply.verdict), (2, True))
         self.compare("--hsts with another word", ran("http://api.test/", "--hsts", "a.test,all").returncode, 2)
+
+    def check_books(self, pair, folder):
+        """Of the hosts that a book knows each upgrade is told its own, and a URL that stays http why (RFC 6797, section 8.2: a
+        host, or one above it with includeSubDomains). What is exported has those of its sites alone, and plays the same."""
+        name, exported = os.path.join(folder, "known.book"), os.path.join(folder, "known.json")
+        far, own = 9999999999, "is a known host (HSTS)"
+        rows = [
+            ([("shop.test", 1, far)], "img.shop.test", f"shop.test {own} with its subdomains, which covers img.shop.test", True),
+            ([("img.shop.test", 0, far), ("shop.test", 1, far)], "img.shop.test", "its host is a known one (HSTS)", True),
+            ([("shop.test", 0, far)], "img.shop.test", f"shop.test {own}, but without includeSubDomains, which would cover", False),
+            ([("img.shop.test", 1, far)], "shop.test", f"img.shop.test {own}, and shop.test is neither that nor below it", False),
+            ([("shop.test", 1, 9)], "shop.test", "shop.test was a known host (HSTS) until second 9, and it is second 1", False),
+            ([("h.test", 1, far)], "shop.test", "", False),
+        ]
+        for hosts, host, part, is_upgraded in rows:
+            with open(name, "w", encoding="utf-8") as file:
+                lines = [f"{until} {is_wide} {len(known)}:{known}\n" for known, is_wide, until in [*hosts, ("zz.other", 1, far)]]
+                file.write("".join(["fiorrudda book 1\n", f"hosts {len(lines)}\n", *lines, "entries 0\n"]))
+            with loopback.Servers(plain, pair) as servers:
+                url = f"http://{host}/x"
+                words = given(url, page="http://cdn.test/", connect_to=places(servers), book=name, export=exported)
+                one = asked.answered(words, url)
+                data, case = one.export.data(), one.told.cases[0]
+            self.compare(f"--book {hosts}, {host}: {case.notes}", [part in note for note in case.notes], [True] * bool(part))
+            self.compare(f"--book {hosts}, {host}: asked", case.chain[0][0].origin, f"http{'s' * is_upgraded}://{host}")
+            self.compare(f"--book {hosts}: another site is exported", b"zz.other" in data, False)
+            told = running.played(data)
+            self.compare(f"--book {hosts}: its export plays {told}", f"\nsend http{'s' * is_upgraded}://{host}\n" in told, True)
+
+    def check_local_networks(self):
+        """A page of the internet that asks this machine is told what Chromium does then, once; one of this machine is not."""
+        for page, count in [("http://shop.test/", 1), ("http://localhost/", 0)]:
+            with loopback.Servers(plain) as servers:
+                answered = asked_of(f"http://127.0.0.1:{servers.port}/x", page=page, twice=True)
+            lines = [line for _, own in answered.pieces() for line in own if "local network access" in line]
+            self.compare(f"a page of {page} asks this machine: {lines}", len(lines), count)
 
     def check_export(self, pair, folder):
         """A file for its owner alone, without secrets, and in the place of none that --export did not write."""
