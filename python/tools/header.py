@@ -16,7 +16,7 @@ from tools import javascript, names as engine_names, rust, versions
 
 TOP = pathlib.Path(ROOT)
 # What declares codes and handles, and the static libraries, in the order of the header.
-CRATES = ("c_handle", "c_calls", "c_policies", "c_books", "c_play")
+CRATES = ("c_handle", "c_calls", "c_fetch_calls", "c_policies", "c_books", "c_play")
 HEADER = TOP / "include/fiorrudda.h"
 COSTS = TOP / "embed/costs"
 

@@ -1,7 +1,7 @@
 use Rattle.std.proofs.Common.{◌≡◌}
 use Rattle.fetch_session.specs.Sessions.{standing_of}
-use Rattle.c_calls.specs.Judging.{judged, many}
-use Rattle.c_calls.proofs.judging.go_on.Given as goal
+use Rattle.c_fetch_calls.specs.Judging.{judged, many}
+use Rattle.c_fetch_calls.proofs.judging.go_on.Given as goal
 
 -- so many acts were done
 abbrev pub invariant-loop-times : goal.invariant-loop-times

@@ -1,8 +1,8 @@
 use Rattle.std.proofs.Common.{rules}
 use Rattle.fetch_session.specs.Sessions.{standing_of}
-use Rattle.c_calls.specs.Judging.{judged}
-use Rattle.c_calls.proofs.JudgingLemmas.{cut-at, many-more, many-none}
-use Rattle.c_calls.proofs.judging.go_on.Goals as goal
+use Rattle.c_fetch_calls.specs.Judging.{judged}
+use Rattle.c_fetch_calls.proofs.JudgingLemmas.{cut-at, many-more, many-none}
+use Rattle.c_fetch_calls.proofs.judging.go_on.Goals as goal
 
 pub loop-times-init : goal.loop-times-init
 loop-times-init c = many-none (judged (standing_of c.args.session.now) c.args.book.now c.args.told.now)

@@ -1,6 +1,6 @@
 // The parts of acts and outcomes by their numbers.
 ghost use Rattle.std.specs.Prelude.{◌≡◌};
-ghost use Rattle.c_calls.specs.Parts as spec;
+ghost use Rattle.c_fetch_calls.specs.Parts as spec;
 
 use c_fetch::{Amount, Part};
 

@@ -1,8 +1,8 @@
 -- What a fetch comes to without the network, act by act.
 use Rattle.std.proofs.Common.{◌≡◌, ◌∙◌, ◌+◌, ◌<◌, ℕ, suc, Result, Ok, Err, OnErr, ap, arith, inl, inr, refl, sym}
 use Rattle.book_calls.specs.declared.book.Book.{Book}
-use Rattle.c_calls.specs.Judging.{IsCut, Judged, many, most_alone, one_more}
-use Rattle.c_calls.specs.Private.Acts.{IsCutThere}
+use Rattle.c_fetch_calls.specs.Judging.{IsCut, Judged, many, most_alone, one_more}
+use Rattle.c_fetch_calls.specs.Private.Acts.{IsCutThere}
 
 pub many-none : (first : Judged) → first ≡ many 0 first
 unfolding many

@@ -1,7 +1,7 @@
 -- One act of a fetch without the network.
 use Rattle.std.specs.Prelude.{◌≡◌, ◌⊎◌, Bool, true, false, Option, Some, None}
-use Rattle.c_calls.specs.Judging.{Judged, is_alone, one_more}
-use Rattle.c_calls.specs.Terms.{Act, Book, act_of}
+use Rattle.c_fetch_calls.specs.Judging.{Judged, is_alone, one_more}
+use Rattle.c_fetch_calls.specs.Terms.{Act, Book, act_of}
 use Rattle.fetch_acts.specs.declared.act.Act.TheVariants.{Tell}
 use Rattle.value_requests.specs.declared.policy.Violation.{Violation}
 

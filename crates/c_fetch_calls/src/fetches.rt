@@ -1,9 +1,9 @@
 // Whole fetches that touch nothing.
 ghost use Rattle.std.specs.Prelude.{◌≡◌, ◌≢◌};
-ghost use Rattle.c_calls.specs.Fetches as spec;
-ghost use Rattle.c_calls.specs.Parts as parts;
+ghost use Rattle.c_fetch_calls.specs.Fetches as spec;
+ghost use Rattle.c_fetch_calls.specs.Parts as parts;
 ghost use Rattle.c_rules.specs.Answers.{IsUnlessMemory};
-ghost use Rattle.c_calls.specs.Fetches.{Begins, GivesAct, GivesNumber, GivesRequest, GivesText};
+ghost use Rattle.c_fetch_calls.specs.Fetches.{Begins, GivesAct, GivesNumber, GivesRequest, GivesText};
 
 use crate::parts::{amount_numbered, part_numbered};
 use c_fetch::{Asked, Settings, amount_of, begin, request_of, text_of};

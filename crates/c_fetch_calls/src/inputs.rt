@@ -1,7 +1,7 @@
 // What came of the acts of a fetch.
 ghost use Rattle.std.specs.Prelude.{◌≡◌};
-ghost use Rattle.c_calls.specs.Inputs as spec;
-ghost use Rattle.c_calls.specs.Inputs.{IsBookAsked, IsFed, IsSaid};
+ghost use Rattle.c_fetch_calls.specs.Inputs as spec;
+ghost use Rattle.c_fetch_calls.specs.Inputs.{IsBookAsked, IsFed, IsSaid};
 ghost use Rattle.fetch_session.specs.Sessions.{standing_of};
 
 use book_calls::Reply;

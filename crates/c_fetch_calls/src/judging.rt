@@ -1,7 +1,7 @@
 // What a fetch comes to without the network.
 ghost use Rattle.std.specs.Prelude.{◌≡◌, ◌≢◌, [], false, true, IfOk, OnErr};
-ghost use Rattle.c_calls.specs.Judging.{HasCome, IsCut, IsJudged, IsLost, IsTold, judged};
-ghost use Rattle.c_calls.specs.Private.Acts.{IsCutThere, IsDone, violation_in};
+ghost use Rattle.c_fetch_calls.specs.Judging.{HasCome, IsCut, IsJudged, IsLost, IsTold, judged};
+ghost use Rattle.c_fetch_calls.specs.Private.Acts.{IsCutThere, IsDone, violation_in};
 ghost use Rattle.c_handle.specs.Things.{both, held_book, held_fetch};
 ghost use Rattle.fetch_session.specs.Sessions.{act_of as next_of, standing_of};
 

@@ -4,9 +4,9 @@ use Rattle.std.specs.Prelude.{◌≡◌, ◌≤◌, ◌⊎◌, ℕ, zero, suc, B
 use Rattle.std.specs.Prelude.{option_map, if◌then◌else◌}
 use Rattle.book_calls.specs.Book.{after, reply}
 use Rattle.book_calls.specs.Ops.{is_in_range}
-use Rattle.c_calls.specs.Fetches.{act_or_end}
-use Rattle.c_calls.specs.Terms.{Act, Book, OK, Session, Standing, Thing, WRONG_HANDLE, act_of, both, held_book}
-use Rattle.c_calls.specs.Terms.{held_fetch, outcome_of, standing_of}
+use Rattle.c_fetch_calls.specs.Fetches.{act_or_end}
+use Rattle.c_fetch_calls.specs.Terms.{Act, Book, OK, Session, Standing, Thing, WRONG_HANDLE, act_of, both, held_book}
+use Rattle.c_fetch_calls.specs.Terms.{held_fetch, outcome_of, standing_of}
 use Rattle.c_handle.specs.declared.thing.Thing.TheVariants as thing
 use Rattle.fetch_acts.specs.declared.act.Act.TheVariants.{Ask, Tell}
 use Rattle.fetch_acts.specs.declared.act.Input.{Input}
