@@ -1070,4 +1070,21 @@ extern "C" {
         room_len: usize,
         len: *mut usize,
     ) -> u32;
+
+    /// Plays a scenario of at most 16 documents over its own servers, as `fiorrudda_play`, and then
+    /// delivers the reports of each document's violations, in order of documents. Writes the text
+    /// of the reports, as `cspreport play` writes one. A call with too little room plays too, and
+    /// the next call plays again.
+    ///
+    /// `OK`; `NO` where the scenario is refused, and then `room` has the place: `json`, or the way
+    /// from the root to the value, which is `/documents` where there are too many; `TOO_SHORT`
+    /// where `room` has less than `len` bytes for either; `OUT_OF_MEMORY`. Except for `OK` and `NO`
+    /// nothing is written to `room`, and with `OUT_OF_MEMORY` nothing to `len`.
+    pub fn fiorrudda_reports(
+        scenario: *const u8,
+        scenario_len: usize,
+        room: *mut u8,
+        room_len: usize,
+        len: *mut usize,
+    ) -> u32;
 }

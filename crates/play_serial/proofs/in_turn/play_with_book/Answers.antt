@@ -2,7 +2,7 @@ use Rattle.std.proofs.Common.{List, ap, rules, ◌∙◌}
 use Rattle.book_calls.specs.Book.{empty}
 use Rattle.play_definitions.specs.Plays.{with_hosts}
 use Rattle.play_serial.proofs.SoFarLemmas.{all-came, none-came}
-use Rattle.play_serial.proofs.in_turn.play_in_turn.Goals as goal
+use Rattle.play_serial.proofs.in_turn.play_with_book.Goals as goal
 use Rattle.script_scenarios.specs.declared.hosts.KnownHost.{KnownHost}
 
 pub loop-number-init : goal.loop-number-init

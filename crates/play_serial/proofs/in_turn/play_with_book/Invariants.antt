@@ -1,5 +1,5 @@
 use Rattle.play_serial.specs.Private.SoFar.{CameSoFar}
-use Rattle.play_serial.proofs.in_turn.play_in_turn.Given as goal
+use Rattle.play_serial.proofs.in_turn.play_with_book.Given as goal
 
 -- the documents so far were played
 abbrev pub invariant-loop-number : goal.invariant-loop-number
