@@ -1,5 +1,5 @@
-use Rattle.program_fetchplay.proofs.GeneratedLemmas.{one-more}
-use Rattle.program_fetchplay.proofs.generated.documents.Goals as goal
+use Rattle.script_generated.proofs.GeneratedLemmas.{one-more}
+use Rattle.script_generated.proofs.generated.documents.Goals as goal
 
 pub loop-index-preserved : goal.loop-index-preserved
 loop-index-preserved c =

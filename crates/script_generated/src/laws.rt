@@ -1,7 +1,7 @@
 // A law of the URLs of generated documents.
 ghost use Rattle.std.specs.Prelude.{◌≡◌, ◌<◌, ℕ, Some, None};
 ghost use Rattle.value_requests.specs.Urls.{url_of_text};
-ghost use Rattle.program_fetchplay.specs.Generated.{address, address_text};
+ghost use Rattle.script_generated.specs.Generated.{address, address_text};
 
 /// The URL of each document that is generated is the one that the text `http://dI.test/` gives by
 /// itself (URL Standard, section 4.4).

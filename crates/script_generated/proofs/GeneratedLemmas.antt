@@ -11,9 +11,9 @@ use Rattle.url.proofs.OnLiterals.{url_on_literals}
 use Rattle.url.specs.Parts.{Parts}
 use Rattle.value_requests.specs.Urls.{url_of_text}
 use Rattle.script_scenarios.specs.ValidScripts.{IsValidInit, IsValidScript}
-use Rattle.program_fetchplay.specs.Generated.{api_server, put_request, put_script, address_text, address}
-use Rattle.program_fetchplay.specs.Generated.{generated_document}
-use Rattle.program_fetchplay.specs.Generated.{preflight_rule, other_rule, generated}
+use Rattle.script_generated.specs.Generated.{api_server, put_request, put_script, address_text, address}
+use Rattle.script_generated.specs.Generated.{generated_document}
+use Rattle.script_generated.specs.Generated.{preflight_rule, other_rule, generated}
 use Rattle.script_scenarios.specs.declared.document.Document.{Document}
 use Rattle.script_scenarios.specs.Urls.{is_document_url}
 use Rattle.script_scenarios.specs.Valid.{IsValidCookie, IsValidHost, IsValidRoute, IsValidRule, IsValidServer}

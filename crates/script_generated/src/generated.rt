@@ -1,7 +1,7 @@
 // A scenario that is generated: documents with keys of their own, which ask one server for the same.
 ghost use Rattle.std.specs.Prelude.{◌≡◌, ◌≤◌, ◌<◌, IfOk, map};
 ghost use Rattle.std.specs.List.{range_with_len};
-ghost use Rattle.program_fetchplay.specs.Generated as spec;
+ghost use Rattle.script_generated.specs.Generated as spec;
 ghost use Rattle.script_scenarios.specs.Valid.{IsValid};
 
 use link_traits::Routes;
@@ -152,8 +152,8 @@ fn documents(alloc: Global, n: u32) -> Result<Documents, OutOfMemory>
 /// `cors` and as `fetch` does it by itself, and let a second pass. The one server, `http://api.test`,
 /// answers every request with status 200, no body and leave for every origin to read it, and an
 /// OPTIONS with leave for the method PUT too. Pieces have at most 4,096 bytes and bodies 262,144, as
-/// by themselves in format 1. The scenario is valid. `OutOfMemory` tells want of memory alone.
-pub(crate) fn generate(alloc: Global, n: u32) -> Result<Scenario, OutOfMemory>
+/// by themselves in format 1. The scenario is valid. `OutOfMemory` where memory was refused.
+pub fn generate(alloc: Global, n: u32) -> Result<Scenario, OutOfMemory>
     requires some { 1 ≤ n }
     requires few { n ≤ 64 }
     ensures value { IfOk result (λ scenario. scenario ≡ spec.generated n) }

@@ -1,6 +1,6 @@
 use Rattle.std.proofs.Common.{◌∙◌}
-use Rattle.program_fetchplay.proofs.GeneratedLemmas.{address-found}
-use Rattle.program_fetchplay.proofs.generated.address.Goals as goal
+use Rattle.script_generated.proofs.GeneratedLemmas.{address-found}
+use Rattle.script_generated.proofs.generated.address.Goals as goal
 
 pub unreachable-requires : goal.unreachable-requires
 unreachable-requires c =
