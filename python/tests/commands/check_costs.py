@@ -1,13 +1,17 @@
 """Checks that nothing that a server answers and no scenario costs more than it is long: each row of
-python/tests/commands/costs_of_answers.py and python/tests/commands/costs_of_scenarios.py, within its seconds of processor time. On a machine that
-is slower than the one where these were set, or shared with others, they are more by as much. It needs python3 (3.9 or
-later). Plays are made by bin/fetchplay, or by the program that FETCHPLAY names."""
+python/tests/commands/costs_of_answers.py and python/tests/commands/costs_of_scenarios.py, within twice its seconds of
+processor time, in one of three tries: what costs the square of its length is far above that each time, and what runs
+beside it is not. On a machine that is slower than the one where the seconds were set they are more by as much. It needs
+python3 (3.9 or later). Plays are made by bin/fetchplay, or by the program that FETCHPLAY names."""
 import os
 
 from fiorrudda.commands import running
 from fiorrudda.places import ROOT
 from tests import base
 from tests.commands import costs_of_answers, costs_of_scenarios
+
+
+TRIES = 3  # of a cost that is above what it is allowed
 
 
 def setUpModule():
@@ -19,11 +23,13 @@ def setUpModule():
 
 class Checks(base.Checks):
     def check_cost(self, name, work, most):
-        slower, began = base.pace(), base.spent()
-        work(self.compare)
-        took, slower = base.spent() - began, max(slower, base.pace())
-        if took > most * slower:
-            self.fault(f"{name}: {took:.1f} s, and at most {most} are allowed, here {most * slower:.1f}")
+        for _ in range(TRIES):
+            slower, began = base.pace(), base.spent()
+            work(self.compare)
+            took, allowed = base.spent() - began, 2 * most * max(slower, base.pace())
+            if took <= allowed:
+                return
+        self.fault(f"{name}: {took:.1f} s, and at most {allowed:.1f} are allowed here")
 
     def test_costs(self):
         costs = costs_of_answers.COSTS + costs_of_scenarios.COSTS
