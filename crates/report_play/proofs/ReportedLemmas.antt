@@ -369,18 +369,18 @@ zero_before : (n : ℕ) → 0 + n ≡ n
 zero_before n = omega arith
 
 -- reports that were delivered behind a play, over links to its servers
-abbrev pub reported-behind : (scenario : Scenario) (links : List SimState) (transcripts : List Transcript)
+reported-behind : (scenario : Scenario) (links : List SimState) (transcripts : List Transcript)
     (delivereds : List Delivered) (scripts history : List Entry) → IsPlay scenario transcripts scripts
     → All (ServesAt scenario) links
     → AreDelivered by_bytes sim_told scenario (book_after (opening_book scenario) scripts) scripts transcripts links
     delivereds history
-    → IsReportedPlay scenario transcripts delivereds history
+    → (reported : IsReportedPlay scenario transcripts delivereds history) × (reported.scripts ≡ scripts)
 reported-behind scenario links transcripts delivereds scripts history play served delivered =
     let more = history-legal by_bytes sim_told scenario (opening_book scenario) delivered.1 play.legal play.turns refl
     in
     let came = added scenario delivered.1 (are-numbered by_rules scenario scripts play.runs)
     (λ i. ap (slice_get scenario.documents) (zero_before i)) (zero_before (length scenario.documents)) served in
-    record {
+    (record {
       scripts = scripts;
       reports = came.rest;
       play = play;
@@ -392,7 +392,7 @@ reported-behind scenario links transcripts delivereds scripts history play serve
           came.named);
       in_order = came.in_order;
       documents = came.each [] tt;
-    }
+    }, refl)
 
 -- and so the scripts may have come one after another
 pub reported-in-order : (scenario : Scenario) (links : List SimState) (transcripts : List Transcript)
@@ -401,11 +401,10 @@ pub reported-in-order : (scenario : Scenario) (links : List SimState) (transcrip
     → AreDelivered by_bytes sim_told scenario (book_after (opening_book scenario) scripts) scripts transcripts links
     delivereds history
     → IsReportedInOrder scenario transcripts delivereds history
-reported-in-order scenario links transcripts delivereds scripts history play order served delivered = record {
-  reported = reported-behind scenario links transcripts delivereds scripts history play
-      (λ k d lt. ap (λ (s : List Server). let o : Option (List Server) = Some s in o) (served k d lt)) delivered;
-  in_order = order;
-}
+reported-in-order scenario links transcripts delivereds scripts history play order served delivered =
+    let behind = reported-behind scenario links transcripts delivereds scripts history play
+    (λ k d lt. ap (λ (s : List Server). let o : Option (List Server) = Some s in o) (served k d lt)) delivered in
+    record { reported = behind.0; in_order = subst (AreInOrderFrom 0) (sym behind.1) order }
 
 pub reported-play : (scenario : Scenario) (made : List (Seating SimState TurnPass)) (transcripts : List Transcript)
     (delivereds : List Delivered) (history : List Entry) (link : SimState)
@@ -419,8 +418,8 @@ reported-play scenario made transcripts delivereds history link opening servers 
     let play = was.play in
     let first : All (ServesAt scenario) (links_in made) = λ k d lt. at (links_in made) opened k d lt in
     let then = all-serve scenario scripts (links_in made) was.links transcripts first play.runs in
-    reported-behind scenario was.links transcripts delivereds scripts history
-    (scripts-play scenario scripts (links_in made) was.links transcripts first then play) then was.delivered
+    (reported-behind scenario was.links transcripts delivereds scripts history
+    (scripts-play scenario scripts (links_in made) was.links transcripts first then play) then was.delivered).0
   where
     read : (links : List SimState) (k : ℕ) (d : SimState) → k < length links
         → slice_get links k ≡ Some (get_or links k d)

@@ -17,8 +17,8 @@ use value_bytes::OutOfMemory;
 // A link to the scenario's servers for each document.
 fn links_to<'a>(alloc: Global, scenario: &'a Scenario) -> Result<Vec<SimLink<'a>>, OutOfMemory>
     requires { IsValid scenario.now }
-    ensures servers { IfOk result (λ links. All (IsLinkTo scenario.now) links.items) }
-    ensures count { IfOk result (λ links. vec_len links ≡ length scenario.now.documents) }
+    ensures servers { IfOk result (λ links. All (IsLinkTo scenario.entry.now) links.items) }
+    ensures count { IfOk result (λ links. vec_len links ≡ length scenario.entry.now.documents) }
 {
     let count = scenario.documents.len();
     let mut links = Vec::with_capacity(alloc, count)?;
@@ -37,7 +37,8 @@ pub fn report_in_turn(alloc: Global, scenario: &Scenario) -> Result<Reported, Ou
     ensures { IfOk result (λ reported. IsReportedInOrder scenario.entry.now reported.transcripts reported.reports
         reported.history) }
 {
-    let WithBook { played, book } = play_with_book(alloc, scenario)?;
+    let left = play_with_book(alloc, scenario)?;
+    let WithBook { played, book } = left;
     let Played {
         transcripts,
         history,

@@ -9,8 +9,8 @@ use Rattle.report_play.proofs.in_turn.report_in_turn.Goals as goal
 pub deliver_all-requires-clause-report : goal.deliver_all-requires-clause-report
 deliver_all-requires-clause-report c =
     let scenario = c.args.scenario.now in
-    let left = c.in_ok-play_with_book.play_with_book in
-    can-report-played by_rules scenario left.played.history c.in_ok-play_with_book.ensures.played.runs c.requires.now
+    let left = c.in_ok-left.left in
+    can-report-played by_rules scenario left.played.history c.in_ok-left.ensures.played.runs c.requires.now
     c.requires.documents (zero_before (length scenario.documents))
   where
     zero_before : (n : ℕ) → 0 + n ≡ n
@@ -18,16 +18,16 @@ deliver_all-requires-clause-report c =
 
 pub deliver_all-requires-clause-many : goal.deliver_all-requires-clause-many
 deliver_all-requires-clause-many c =
-    c.in_ok-links.ensures.count ∙ sym (many-transcripts c.in_ok-play_with_book.ensures.played.runs)
+    c.in_ok-links.ensures.count ∙ sym (many-transcripts c.in_ok-left.ensures.played.runs)
 
 pub deliver_all-requires-clause-turns : goal.deliver_all-requires-clause-turns
-deliver_all-requires-clause-turns c = c.in_ok-play_with_book.ensures.played.turns
+deliver_all-requires-clause-turns c = c.in_ok-left.ensures.played.turns
 
 pub returns : goal.returns
 returns c =
     let scenario = c.args.scenario.now in
-    let left = c.in_ok-play_with_book.play_with_book in
-    let is = c.in_ok-play_with_book.ensures in
+    let left = c.in_ok-left.left in
+    let is = c.in_ok-left.ensures in
     let all = c.in_ok-all.all in
     let links = c.in_ok-links.links.items in
     let played = left.played in
