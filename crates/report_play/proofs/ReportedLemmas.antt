@@ -379,20 +379,22 @@ reported-behind scenario links transcripts delivereds scripts history play serve
     let more = history-legal by_bytes sim_told scenario (opening_book scenario) delivered.1 play.legal play.turns refl
     in
     let came = added scenario delivered.1 (are-numbered by_rules scenario scripts play.runs)
-    (λ i. ap (slice_get scenario.documents) (zero_before i)) (zero_before (length scenario.documents)) served in
-    (record {
-      scripts = scripts;
-      reports = came.rest;
-      play = play;
-      history_is = came.whole_is;
-      legal = more.0;
-      turns = more.1;
-      named = subst (AllByRecursion (λ (e : Entry). e.document < length scenario.documents)) (sym came.whole_is)
-          (AllByRecursion-append (λ (e : Entry). e.document < length scenario.documents) scripts came.rest play.named
-          came.named);
-      in_order = came.in_order;
-      documents = came.each [] tt;
-    }, refl)
+    (λ i. ap (slice_get scenario.documents) (zero_before i)) (zero_before (length scenario.documents)) served in (
+      record {
+        scripts = scripts;
+        reports = came.rest;
+        play = play;
+        history_is = came.whole_is;
+        legal = more.0;
+        turns = more.1;
+        named = subst (AllByRecursion (λ (e : Entry). e.document < length scenario.documents)) (sym came.whole_is)
+            (AllByRecursion-append (λ (e : Entry). e.document < length scenario.documents) scripts came.rest play.named
+            came.named);
+        in_order = came.in_order;
+        documents = came.each [] tt;
+      },
+      refl,
+    )
 
 -- and so the scripts may have come one after another
 pub reported-in-order : (scenario : Scenario) (links : List SimState) (transcripts : List Transcript)
