@@ -84,7 +84,18 @@ static uint32_t played(const uint8_t *scenario, size_t size, uint32_t wanted) {
 #define DOCUMENT "{\"url\":\"https://a.example/\"," POLICY ",\"script\":[{\"repeat\":2,\"do\":[" ASKED "]}]}"
 #define HOSTS "\"hsts\":[{\"host\":\"a-host-of-a-long-name.example\",\"subdomains\":true,\"until\":9}]"
 #define PLAYED "{\"format\":1," HOSTS "," SERVERS ",\"documents\":[" DOCUMENT "]}"
+#define TOLD "\"headers\":[[\"Content-Security-Policy\",\"connect-src 'none'; report-uri /a-path-of-thirty-bytes-or-more\"]]"
+#define REPORTED "{\"format\":1,\"documents\":[{\"url\":\"https://a.example/\"," TOLD ",\"script\":[{\"fetch\":{\"url\":\"/\"}}]}]}"
 #define REFUSED "{\"format\":1," SERVERS ",\"documents\":[{\"url\":\"/\"}]}"
+
+// The text of the reports, or nothing.
+static uint32_t reports(void) {
+    len = 77;
+    room[0] = 0xEE;
+    uint32_t code = fiorrudda_reports(T(REPORTED), room, sizeof room, &len);
+    HOLDS(code == FIORRUDDA_OK || code == FIORRUDDA_TOO_SHORT || (len == 77 && room[0] == 0xEE));
+    return code == FIORRUDDA_TOO_SHORT ? FIORRUDDA_OK : code;
+}
 
 // The line of an audit, likewise.
 static uint32_t audit(void) {
@@ -283,7 +294,7 @@ static const struct { const char *name; uint32_t (*call)(void); } calls[] = {
     {"judge_request", judge_request}, {"judge_preflight", judge_preflight}, {"judge_answer", judge_answer},
     {"on_request", on_request}, {"unsafe_name", unsafe_name}, {"exposed_name", exposed_name},
     {"forbidden_header", forbidden_header}, {"book_text", book_text}, {"book_of_text", book_of_text},
-    {"play", play}, {"play_none", play_none}, {"play_refused", play_refused}, {"audit", audit},
+    {"play", play}, {"play_none", play_none}, {"play_refused", play_refused}, {"audit", audit}, {"reports", reports},
 };
 
 // What the header list and the book hold is as it was: told by calls that the refused ones are not.

@@ -259,6 +259,7 @@ static void bytes(void) {
     HOLDS(line == 1 && a == FIORRUDDA_REASON_NO_BOOK);
     IS(NO, fiorrudda_play(T("\xff"), room, sizeof room, &len));
     HOLDS(len == 4 && !memcmp(room, "json", 4));
+    IS(NO, fiorrudda_reports(T("\xff"), room, sizeof room, &len));
     IS(NO, fiorrudda_audit(T("\xff"), T("\xff"), room, sizeof room, &len));
     IS(OK, fiorrudda_request(&held[REQUEST], T("PUT"), T("/\xff")));
     faults(FIORRUDDA_FAULT_BAD_URL);

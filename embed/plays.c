@@ -1,5 +1,5 @@
-// Whole plays of scenarios, from C: what is played, what is refused and where, what an audit says, and room that is too
-// little. Ends with the line of the first case that is not as it should be.
+// Whole plays of scenarios, from C: what is played, what is refused and where, what an audit says, what is reported, and
+// room that is too little. Ends with the line of the first case that is not as it should be.
 //
 //     plays FILE
 //
@@ -133,6 +133,36 @@ static void audits(void) {
     }
 }
 
+#define REPORTING "{\"url\": \"https://a.test/\", \"headers\": [[\"Content-Security-Policy\", \"connect-src 'none'; report-uri /r\"]], " \
+    "\"script\": [{\"fetch\": {\"url\": \"/b\"}}]}"
+#define NONE "document 0 https://a.test\nend finished\nhistory\ndone\n"
+
+#define REPORTED(code, scenario, text) \
+    do { \
+        unwritten(); \
+        IS(code, fiorrudda_reports(T(scenario), room, sizeof room, &len)); \
+        SAYS(text); \
+    } while (0)
+
+#define FOUR(document) document ", " document ", " document ", " document
+
+static void reports(void) {
+    REPORTED(OK, SCENARIO, "cspreport 1\n" NONE);
+    REPORTED(NO, "{}", "/format");
+    REPORTED(NO, "{\"format\": 1, \"documents\": [" FOUR(FOUR(DOCUMENT)) ", " DOCUMENT "]}", "/documents");
+    unwritten();
+    IS(OK, fiorrudda_reports(T("{\"format\": 1, " SERVER ", \"documents\": [" REPORTING "]}"), room, sizeof room - 1, &len));
+    room[len] = 0;
+    HOLDS(strstr((char *)room, "\nreport 0\n") && strstr((char *)room, "  POST /r HTTP/1.1\n"));
+    // In too little room nothing is written, and the length is told.
+    size_t needed = strlen("cspreport 1\n" NONE);
+    for (size_t room_len = 0; room_len < needed; room_len++) {
+        unwritten();
+        IS(TOO_SHORT, fiorrudda_reports(T(SCENARIO), room, room_len, &len));
+        HOLDS(len == needed && room[0] == 0xEE);
+    }
+}
+
 static int file(const char *name) {
     size_t size = 0, got = 1, room_len = 1 << 20;
     uint8_t *scenario = NULL, *text = malloc(room_len);
@@ -163,6 +193,7 @@ int main(int count, char **words) {
     shared();
     refusals();
     audits();
+    reports();
     narrow(T(SCENARIO), FIORRUDDA_OK, PLAY);
     narrow(T("{\"format\": 1, \"documents\": [{\"url\": \"/\"}]}"), FIORRUDDA_NO, "/documents/0/url");
     narrow(T("{"), FIORRUDDA_NO, "json");

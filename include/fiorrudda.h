@@ -1014,7 +1014,7 @@ uint32_t fiorrudda_text(fiorrudda_handle *fetch, uint32_t which, size_t at, uint
 /// FIORRUDDA_OK nothing is written.
 uint32_t fiorrudda_number(fiorrudda_handle *fetch, uint32_t which, uint64_t *number);
 
-// ---- A whole play of a scenario (docs/scenario.md), and the audit of one
+// ---- A whole play of a scenario (docs/scenario.md), its reports, and the audit of one
 //
 //     code = fiorrudda_play(T("{\"format\": 1, \"documents\": [{\"url\": \"https://app.example/\","
 //         " \"headers\": [[\"Content-Security-Policy\", \"img-src 'self'\"]],"
@@ -1033,6 +1033,16 @@ uint32_t fiorrudda_number(fiorrudda_handle *fetch, uint32_t which, uint64_t *num
 /// either; FIORRUDDA_OUT_OF_MEMORY. Except for FIORRUDDA_OK and FIORRUDDA_NO nothing is written to `room`, and with
 /// FIORRUDDA_OUT_OF_MEMORY nothing to `len`.
 uint32_t fiorrudda_play(const uint8_t *scenario, size_t scenario_len, uint8_t *room, size_t room_len, size_t *len);
+
+/// Plays a scenario of at most 16 documents over its own servers, as `fiorrudda_play`, and then delivers the reports
+/// of each document's violations, in order of documents. Writes the text of the reports, as `cspreport play` writes
+/// one. A call with too little room plays too, and the next call plays again.
+///
+/// FIORRUDDA_OK; FIORRUDDA_NO where the scenario is refused, and then `room` has the place: `json`, or the way from
+/// the root to the value, which is `/documents` where there are too many; FIORRUDDA_TOO_SHORT where `room` has less
+/// than `len` bytes for either; FIORRUDDA_OUT_OF_MEMORY. Except for FIORRUDDA_OK and FIORRUDDA_NO nothing is written
+/// to `room`, and with FIORRUDDA_OUT_OF_MEMORY nothing to `len`.
+uint32_t fiorrudda_reports(const uint8_t *scenario, size_t scenario_len, uint8_t *room, size_t room_len, size_t *len);
 
 /// Audits a text that claims to be the printed play of a scenario over its own servers, as `playaudit` does: which
 /// history it holds, whether the book gives it, and whether each document's run makes just these calls and prints

@@ -156,6 +156,7 @@ export const CALLS = {
   text: "handle u32 u64 room",
   number: "handle u32 u64_out",
   play: "text room",
+  reports: "text room",
   audit: "text text room",
 };
 
@@ -620,6 +621,14 @@ export function play(engine, scenario) {
   const scenarioAt = engine.lend(scenario);
   const scenarioLen = engine.length;
   const answer = engine.written((room, roomLen, len) => engine.exports.fiorrudda_play(scenarioAt, scenarioLen, room, roomLen, len));
+  engine.done();
+  return answer;
+}
+
+export function reports(engine, scenario) {
+  const scenarioAt = engine.lend(scenario);
+  const scenarioLen = engine.length;
+  const answer = engine.written((room, roomLen, len) => engine.exports.fiorrudda_reports(scenarioAt, scenarioLen, room, roomLen, len));
   engine.done();
   return answer;
 }

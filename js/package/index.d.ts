@@ -350,6 +350,9 @@ export function judge(client: Client, request: ScriptRequest | Load, init?: { bo
 /** The printed play of a scenario (docs/scenario.md): its JSON, or the value that it stands for. Documents play one after
  * another. `NotAScenario` where it is refused. */
 export function play(scenario: Text | object): string;
+/** The printed play of a scenario of at most 16 documents with the reports of their violations (docs/rules/reports.md).
+ * `NotAScenario` where it is refused. */
+export function reports(scenario: Text | object): string;
 /** Audits a text that claims to be the printed play of a scenario: null where it is one, else what keeps it from being one,
  * as `Text 120`. */
 export function audit(scenario: Text | object, play: Text): string | null;

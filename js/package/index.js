@@ -742,13 +742,20 @@ function jsonOf(scenario) {
   return isText ? scenario : JSON.stringify(scenario);
 }
 
-export function play(scenario) {
-  const { code, bytes } = calls.play(engine, jsonOf(scenario));
+function played({ code, bytes }) {
   if (code === CODE.NO) {
     throw new NotAScenario(decoder.decode(bytes));
   }
   told(code);
   return decoder.decode(bytes);
+}
+
+export function play(scenario) {
+  return played(calls.play(engine, jsonOf(scenario)));
+}
+
+export function reports(scenario) {
+  return played(calls.reports(engine, jsonOf(scenario)));
 }
 
 const NO_PLAY = "not a play: ";

@@ -168,6 +168,43 @@ test("audits", async (context) => {
     + (hasNative() ? " say what those of the native library say" : ""));
 });
 
+function reportProgram() {
+  return [process.env.CSPREPORT, path.join(ROOT, "crates", "cspreport", "out", "cspreport")].find((one) => one
+    && fs.existsSync(one));
+}
+
+// What the program prints of the reports of a play, or null where its documents came in another order.
+function reportedByProgram(scenario) {
+  const ran = spawnSync(reportProgram(), ["play"], { input: scenario, maxBuffer: 1 << 28 });
+  if (ran.status === 2) {
+    return [1, /fault 2 at (\S+)/.exec(ran.stderr.toString())[1]];
+  }
+  const printed = ran.stdout.toString("latin1");
+  return isInTurn(printed) ? [0, printed] : null;
+}
+
+// Of each play of the gallery, and of each case that has a policy.
+test("reports", async (context) => {
+  const engine = new Engine(wasm);
+  const lines = [JSON.stringify(calls.CALLS)];
+  let printed = 0;
+  for (const [file] of [...galleryFiles(), ...caseFiles()]) {
+    const scenario = fs.readFileSync(file);
+    const answer = calls.reports(engine, scenario);
+    lines.push(JSON.stringify(["reports", [scenario.toString("base64")], cameOf(answer, ["text", "room"])]));
+    const wanted = reportProgram() ? reportedByProgram(scenario) : null;
+    if (wanted) {
+      const came = [answer.code, Buffer.from(answer.bytes).toString("latin1")];
+      await compare(context, path.relative(ROOT, file) + ": its reports", came, wanted);
+      printed += 1;
+    }
+  }
+  if (hasNative()) {
+    await compare(context, "reports", JSON.parse(native("calls", lines.join("\n") + "\n")), [lines.length - 1, null]);
+  }
+  context.diagnostic(lines.length - 1 + " plays with reports, " + printed + " as the program printed them");
+});
+
 // ---- memory
 
 // By an engine of its own, whose blocks are counted.

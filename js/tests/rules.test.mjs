@@ -211,6 +211,8 @@ test("a play", async (context) => {
   await refuses(context, () => f.play({ format: 1, documents: [{ url: "/" }] }), f.NotAScenario,
     { place: "/documents/0/url" });
   await refuses(context, () => f.play("{"), f.NotAScenario, { place: "json" });
+  await is(context, f.reports({ format: 1, documents: [] }), "cspreport 1\nhistory\ndone\n");
+  await refuses(context, () => f.reports("{"), f.NotAScenario, { place: "json" });
   await is(context, f.audit({ format: 1, documents: [] }, text), null);
   await is(context, f.audit('{"format":1,"documents":[]}', new TextEncoder().encode(text)), null);
   await is(context, f.audit({ format: 1, documents: [] }, text.replace("fetchplay 1", "fetchplay 2")), "Text 10");

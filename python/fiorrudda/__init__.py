@@ -1,5 +1,5 @@
 """The rules of a browser's fetch, one call each, whole fetches (`fiorrudda.whole`), and whole plays of scenarios
-(`play`), over the C library of Fiorrudda.
+(`play`, `reports`), over the C library of Fiorrudda.
 
 Texts are `str`, which is encoded as UTF-8, or `bytes` or another buffer. A rule that cannot answer raises a
 `FiorruddaError`: the class says what was wrong with what was given. A `Headers`, `Book`, `Client`, `Request`, `Load`,
@@ -17,7 +17,7 @@ if TYPE_CHECKING:
         Book, FiorruddaError, Headers, NoRequest, NoSuchNumber, NotABook, NotAHeader, NotAHost, NotAScenario,
         NotAUrl, NotAwaited, NotHttp, OutOfMemory, ReferrerPolicy, Sts, TooLate, WrongHandle, audit, is_bad_port,
         is_forbidden_method, is_safelisted, is_trustworthy, matches_integrity, origin, parse_sts, play, referrer,
-        same_origin, same_site, source_matches,
+        reports, same_origin, same_site, source_matches,
     )
     from .whole import (
         Ask, Client, Fetch, Load, Loaded, NetworkError, Policies, ReadBody, ReadHead, Request, Response, Send,
@@ -92,6 +92,7 @@ __all__ = [
     "preflight",
     "preflight_verdict",
     "referrer",
+    "reports",
     "same_origin",
     "same_site",
     "says_nosniff",

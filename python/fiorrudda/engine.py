@@ -442,11 +442,21 @@ def play(scenario: Union[Text, Mapping[str, Any]]) -> str:
     """Plays a scenario over its own servers, from its own time on, and gives the text that `fetchplay play` prints. Its
     documents play one after another, over one book. The scenario is JSON, or the object that is written as such.
     `NotAScenario` where it is refused."""
+    return _played(_lib.fiorrudda_play, scenario)
+
+
+def reports(scenario: Union[Text, Mapping[str, Any]]) -> str:
+    """Plays a scenario of at most 16 documents, likewise, with the reports of its documents' violations, and gives the
+    text that `cspreport play` prints. `NotAScenario` where it is refused."""
+    return _played(_lib.fiorrudda_reports, scenario)
+
+
+def _played(call: Any, scenario: Union[Text, Mapping[str, Any]]) -> str:
     said = _lent(json.dumps(dict(scenario)) if isinstance(scenario, Mapping) else scenario)
     length, size = ctypes.c_size_t(0), _PLAY_ROOM
     while True:
         room = ctypes.create_string_buffer(size)
-        code = _lib.fiorrudda_play(*said, room, size, length)
+        code = call(*said, room, size, length)
         if code != _TOO_SHORT:
             break
         size = length.value

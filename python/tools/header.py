@@ -16,7 +16,7 @@ from tools import javascript, names as engine_names, rust, versions
 
 TOP = pathlib.Path(ROOT)
 # What declares codes and handles, and the static libraries, in the order of the header.
-CRATES = ("c_handle", "c_calls", "c_policies", "c_books", "c_play")
+CRATES = ("c_handle", "c_calls", "c_fetch_calls", "c_policies", "c_books", "c_play")
 HEADER = TOP / "include/fiorrudda.h"
 COSTS = TOP / "embed/costs"
 
@@ -50,10 +50,10 @@ GROUPS = (
     ("What a page sees of an answer", "seen", "filtered"),
     ("Books: the known hosts and the preflight cache", "books", "book sts note_host known_host book_text book_of_text"),
     ("A whole fetch, by its acts", "fetch", "fetch act ask judge to_send input feed text number"),
-    ("A whole play of a scenario (docs/scenario.md), and the audit of one", "play", "play audit"),
+    ("A whole play of a scenario (docs/scenario.md), its reports, and the audit of one", "play", "play reports audit"),
 )
 # Calls by which no rule of a standard is asked; each other one names its section.
-OWN = ("free", "text", "number", "book_text", "book_of_text", "play", "audit")
+OWN = ("free", "text", "number", "book_text", "book_of_text", "play", "reports", "audit")
 # Where the library's tables of names have their numbers: a prefix, a file, and the arms of the table.
 TABLES = (
     ("ERROR", "value_requests/src/error.rt", r"^ +NetError::\w+(?:\(_\))? => \((?P<number>\d+), \"(?P<name>\w+)\"\),$",

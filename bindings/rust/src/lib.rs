@@ -68,7 +68,7 @@ pub use headers::{
     essence, exposed_names, keeps_from, passes_cors_check, says_nosniff, unsafe_names, Headers,
 };
 pub use numbers::*;
-pub use play::play;
+pub use play::{play, reports};
 pub use policies::{Policies, Violation};
 pub use rules::{
     is_bad_port, is_forbidden_header, is_forbidden_method, is_safelisted, is_trustworthy,

@@ -401,69 +401,6 @@ extern "C" {
         value_len: usize,
     ) -> u32;
 
-    /// Begins in a handle the fetch of a request for a client, at a time in seconds since any fixed
-    /// moment, with bodies of at most `limit` bytes (Fetch, section 4.1, "main fetch"). Nothing is
-    /// kept of the client and the request: each may be used again. What the handle held is freed.
-    /// The fetch is then done by a loop over its acts: `fiorrudda_act` says what is to be done, and
-    /// a call tells what came of it, until it is `ACT_OVER`.
-    ///
-    /// `OK`; `WRONG_HANDLE`; `NO_REQUEST` where no request can be made of it: `fault` is then the
-    /// reason, one of the numbers `FAULT_..`, and `header` the index of a header that is none
-    /// (Fetch, sections 5.4 and 5.6); `TOO_LATE`; `OUT_OF_MEMORY`. Except for `OK` the handle holds
-    /// what it held, and except for `NO_REQUEST` nothing is written.
-    pub fn fiorrudda_fetch(
-        fetch: *mut Handle,
-        client: *mut Handle,
-        request: *mut Handle,
-        now: u64,
-        limit: u32,
-        fault: *mut u32,
-        header: *mut u32,
-    ) -> u32;
-
-    /// Tells in `act` what a fetch does next (Fetch, section 4), by one of the numbers `ACT_..`.
-    /// `fiorrudda_text` and `fiorrudda_number` have the act's parts, or those of the outcome of a
-    /// fetch that is over.
-    ///
-    /// `OK`; `WRONG_HANDLE`, and then nothing is written.
-    pub fn fiorrudda_act(fetch: *mut Handle, act: *mut u32) -> u32;
-
-    /// Writes a text that the act of a fetch has, or its outcome, at the beginning of `room`, with
-    /// no NUL after it, and tells in `len` how many bytes it is. The text is one of the numbers
-    /// `TEXT_..`; of a list it is that at the index `at`.
-    ///
-    /// `OK`; `NO` where there is none; `TOO_SHORT` where `room` has less than `len` bytes;
-    /// `WRONG_HANDLE`; `NO_SUCH_NUMBER`. But for `OK` nothing is written to `room`, and but for
-    /// `OK` and `TOO_SHORT` nothing to `len`.
-    pub fn fiorrudda_text(
-        fetch: *mut Handle,
-        which: u32,
-        at: usize,
-        room: *mut u8,
-        room_len: usize,
-        len: *mut usize,
-    ) -> u32;
-
-    /// Tells a number that the act of a fetch has, or its outcome: one of the numbers `NUMBER_..`.
-    ///
-    /// `OK`; `NO` where there is none; `WRONG_HANDLE`; `NO_SUCH_NUMBER`. But for `OK` nothing is
-    /// written.
-    pub fn fiorrudda_number(fetch: *mut Handle, which: u32, number: *mut u64) -> u32;
-
-    /// Writes all bytes of the request that a fetch sends (RFC 9112, section 3) at the beginning of
-    /// `room`, and tells in `len` how many they are. They are for the server of `TEXT_ORIGIN`, over
-    /// a connection of their own.
-    ///
-    /// `OK`; `NO` where nothing is sent; `TOO_SHORT` where `room` has less than `len` bytes;
-    /// `WRONG_HANDLE`; `OUT_OF_MEMORY`. But for `OK` nothing is written to `room`, and but for `OK`
-    /// and `TOO_SHORT` nothing to `len`.
-    pub fn fiorrudda_to_send(
-        fetch: *mut Handle,
-        room: *mut u8,
-        room_len: usize,
-        len: *mut usize,
-    ) -> u32;
-
     /// Frees what a handle holds, and leaves it empty. An empty handle stays so. A book that
     /// threads share is freed under their lock, or when the others are done with it.
     pub fn fiorrudda_free(handle: *mut Handle);
@@ -551,66 +488,6 @@ extern "C" {
         field_len: usize,
         age: *mut u64,
         subdomains: *mut u32,
-    ) -> u32;
-
-    /// Tells a fetch what came of its act (Fetch, section 4), by one of the numbers `INPUT_..`.
-    /// `INPUT_SENT` follows `ACT_SEND`; `INPUT_TOLD` follows `ACT_TELL`; `INPUT_ENDED` follows
-    /// `ACT_READ_HEAD` and `ACT_READ_BODY`; `INPUT_FAILED` follows these three; `INPUT_YES` and
-    /// `INPUT_NO` follow `ACT_ASK` where it is a question, and `INPUT_DONE` where not.
-    ///
-    /// `OK`; `NOT_AWAITED` where it does not follow, and then the fetch stands where it stood;
-    /// `WRONG_HANDLE`; `NO_SUCH_NUMBER`; `OUT_OF_MEMORY`, and then the fetch is gone: its act is
-    /// `ACT_GONE`.
-    pub fn fiorrudda_input(fetch: *mut Handle, input: u32) -> u32;
-
-    /// Hands a fetch the next bytes of the answer, in any piece, be it empty, and tells in `used`
-    /// how many of them were read (RFC 9112, sections 4, 6 and 7). Where a head ends in the piece,
-    /// the bytes behind it are not read: they are the first of the body, and are handed in again
-    /// when the act is `ACT_READ_BODY`, even if there are none; `ACT_ASK` and `ACT_TELL` may come
-    /// before. At `ACT_SEND` and `ACT_OVER` unread bytes are of no use, and the connection is
-    /// closed.
-    ///
-    /// `OK`; `NOT_AWAITED` where no bytes are read now, and then the fetch stands where it stood;
-    /// `WRONG_HANDLE`; `OUT_OF_MEMORY`, and then the fetch is gone: its act is `ACT_GONE`. But for
-    /// `OK` none are read; for `WRONG_HANDLE` nothing is written.
-    pub fn fiorrudda_feed(
-        fetch: *mut Handle,
-        bytes: *const u8,
-        bytes_len: usize,
-        used: *mut usize,
-    ) -> u32;
-
-    /// Has a fetch ask a book what its act asks for, or tell it that, and goes on from what the
-    /// book replies, which is told in `reply`: `INPUT_YES`, `INPUT_NO` or `INPUT_DONE` (Fetch,
-    /// section 4.9; RFC 6797, section 8). Threads that share the book hold one common lock around
-    /// each call that takes it.
-    ///
-    /// `OK`; `NOT_AWAITED` where the act asks no book, and then the fetch stands where it stood and
-    /// the book is as it was; `WRONG_HANDLE`; `OUT_OF_MEMORY`, and then the fetch is lost: its act
-    /// is `ACT_GONE`. Then the book may have done what it was asked, and `reply` is told; else the
-    /// book is as it was, and nothing is written to `reply`: set it to 0 before the call. With
-    /// `NOT_AWAITED` and `WRONG_HANDLE` nothing is written to it.
-    pub fn fiorrudda_ask(fetch: *mut Handle, book: *mut Handle, reply: *mut u32) -> u32;
-
-    /// Has a fetch go on without the network: it asks the book, and its document is told of
-    /// violations, until it must send or read, or is over (Fetch, section 4.1, "main fetch"). So
-    /// behind `fiorrudda_fetch` it says what a browser would make of the request, and behind
-    /// `fiorrudda_feed` what it would make of the answer. `act` is then what `fiorrudda_act` tells:
-    /// at `ACT_SEND` `TEXT_ORIGIN` and `TEXT_URL` are the URL after upgrades, and the headers are
-    /// those of the request, Origin, Referer and Cookie among them, or of a preflight that goes
-    /// first; at `ACT_OVER` `NUMBER_ERROR` is the refusal. The violations on the way, report-only
-    /// ones too, are held by `violations`, and what it held is freed. The calls of the book are not
-    /// told. Threads that share the book hold one common lock around each call that takes it.
-    ///
-    /// `OK`; `WRONG_HANDLE`, of the fetch or the book; `OUT_OF_MEMORY`, and then the fetch is
-    /// freed, and the book may have done what it was asked on the way. Except for `OK` nothing else
-    /// is changed. A call that comes to no end in 65,536 acts ends at `ACT_ASK` or `ACT_TELL`, and
-    /// is to be made again: `violations` has those since the call before.
-    pub fn fiorrudda_judge(
-        fetch: *mut Handle,
-        book: *mut Handle,
-        violations: *mut Handle,
-        act: *mut u32,
     ) -> u32;
 
     /// Writes the serialised origin of a URL at the beginning of `room`, with no NUL after it, and
@@ -725,6 +602,129 @@ extern "C" {
         metadata_len: usize,
         body: *const u8,
         body_len: usize,
+    ) -> u32;
+
+    /// Begins in a handle the fetch of a request for a client, at a time in seconds since any fixed
+    /// moment, with bodies of at most `limit` bytes (Fetch, section 4.1, "main fetch"). Nothing is
+    /// kept of the client and the request: each may be used again. What the handle held is freed.
+    /// The fetch is then done by a loop over its acts: `fiorrudda_act` says what is to be done, and
+    /// a call tells what came of it, until it is `ACT_OVER`.
+    ///
+    /// `OK`; `WRONG_HANDLE`; `NO_REQUEST` where no request can be made of it: `fault` is then the
+    /// reason, one of the numbers `FAULT_..`, and `header` the index of a header that is none
+    /// (Fetch, sections 5.4 and 5.6); `TOO_LATE`; `OUT_OF_MEMORY`. Except for `OK` the handle holds
+    /// what it held, and except for `NO_REQUEST` nothing is written.
+    pub fn fiorrudda_fetch(
+        fetch: *mut Handle,
+        client: *mut Handle,
+        request: *mut Handle,
+        now: u64,
+        limit: u32,
+        fault: *mut u32,
+        header: *mut u32,
+    ) -> u32;
+
+    /// Tells in `act` what a fetch does next (Fetch, section 4), by one of the numbers `ACT_..`.
+    /// `fiorrudda_text` and `fiorrudda_number` have the act's parts, or those of the outcome of a
+    /// fetch that is over.
+    ///
+    /// `OK`; `WRONG_HANDLE`, and then nothing is written.
+    pub fn fiorrudda_act(fetch: *mut Handle, act: *mut u32) -> u32;
+
+    /// Writes a text that the act of a fetch has, or its outcome, at the beginning of `room`, with
+    /// no NUL after it, and tells in `len` how many bytes it is. The text is one of the numbers
+    /// `TEXT_..`; of a list it is that at the index `at`.
+    ///
+    /// `OK`; `NO` where there is none; `TOO_SHORT` where `room` has less than `len` bytes;
+    /// `WRONG_HANDLE`; `NO_SUCH_NUMBER`. But for `OK` nothing is written to `room`, and but for
+    /// `OK` and `TOO_SHORT` nothing to `len`.
+    pub fn fiorrudda_text(
+        fetch: *mut Handle,
+        which: u32,
+        at: usize,
+        room: *mut u8,
+        room_len: usize,
+        len: *mut usize,
+    ) -> u32;
+
+    /// Tells a number that the act of a fetch has, or its outcome: one of the numbers `NUMBER_..`.
+    ///
+    /// `OK`; `NO` where there is none; `WRONG_HANDLE`; `NO_SUCH_NUMBER`. But for `OK` nothing is
+    /// written.
+    pub fn fiorrudda_number(fetch: *mut Handle, which: u32, number: *mut u64) -> u32;
+
+    /// Writes all bytes of the request that a fetch sends (RFC 9112, section 3) at the beginning of
+    /// `room`, and tells in `len` how many they are. They are for the server of `TEXT_ORIGIN`, over
+    /// a connection of their own.
+    ///
+    /// `OK`; `NO` where nothing is sent; `TOO_SHORT` where `room` has less than `len` bytes;
+    /// `WRONG_HANDLE`; `OUT_OF_MEMORY`. But for `OK` nothing is written to `room`, and but for `OK`
+    /// and `TOO_SHORT` nothing to `len`.
+    pub fn fiorrudda_to_send(
+        fetch: *mut Handle,
+        room: *mut u8,
+        room_len: usize,
+        len: *mut usize,
+    ) -> u32;
+
+    /// Tells a fetch what came of its act (Fetch, section 4), by one of the numbers `INPUT_..`.
+    /// `INPUT_SENT` follows `ACT_SEND`; `INPUT_TOLD` follows `ACT_TELL`; `INPUT_ENDED` follows
+    /// `ACT_READ_HEAD` and `ACT_READ_BODY`; `INPUT_FAILED` follows these three; `INPUT_YES` and
+    /// `INPUT_NO` follow `ACT_ASK` where it is a question, and `INPUT_DONE` where not.
+    ///
+    /// `OK`; `NOT_AWAITED` where it does not follow, and then the fetch stands where it stood;
+    /// `WRONG_HANDLE`; `NO_SUCH_NUMBER`; `OUT_OF_MEMORY`, and then the fetch is gone: its act is
+    /// `ACT_GONE`.
+    pub fn fiorrudda_input(fetch: *mut Handle, input: u32) -> u32;
+
+    /// Hands a fetch the next bytes of the answer, in any piece, be it empty, and tells in `used`
+    /// how many of them were read (RFC 9112, sections 4, 6 and 7). Where a head ends in the piece,
+    /// the bytes behind it are not read: they are the first of the body, and are handed in again
+    /// when the act is `ACT_READ_BODY`, even if there are none; `ACT_ASK` and `ACT_TELL` may come
+    /// before. At `ACT_SEND` and `ACT_OVER` unread bytes are of no use, and the connection is
+    /// closed.
+    ///
+    /// `OK`; `NOT_AWAITED` where no bytes are read now, and then the fetch stands where it stood;
+    /// `WRONG_HANDLE`; `OUT_OF_MEMORY`, and then the fetch is gone: its act is `ACT_GONE`. But for
+    /// `OK` none are read; for `WRONG_HANDLE` nothing is written.
+    pub fn fiorrudda_feed(
+        fetch: *mut Handle,
+        bytes: *const u8,
+        bytes_len: usize,
+        used: *mut usize,
+    ) -> u32;
+
+    /// Has a fetch ask a book what its act asks for, or tell it that, and goes on from what the
+    /// book replies, which is told in `reply`: `INPUT_YES`, `INPUT_NO` or `INPUT_DONE` (Fetch,
+    /// section 4.9; RFC 6797, section 8). Threads that share the book hold one common lock around
+    /// each call that takes it.
+    ///
+    /// `OK`; `NOT_AWAITED` where the act asks no book, and then the fetch stands where it stood and
+    /// the book is as it was; `WRONG_HANDLE`; `OUT_OF_MEMORY`, and then the fetch is lost: its act
+    /// is `ACT_GONE`. Then the book may have done what it was asked, and `reply` is told; else the
+    /// book is as it was, and nothing is written to `reply`: set it to 0 before the call. With
+    /// `NOT_AWAITED` and `WRONG_HANDLE` nothing is written to it.
+    pub fn fiorrudda_ask(fetch: *mut Handle, book: *mut Handle, reply: *mut u32) -> u32;
+
+    /// Has a fetch go on without the network: it asks the book, and its document is told of
+    /// violations, until it must send or read, or is over (Fetch, section 4.1, "main fetch"). So
+    /// behind `fiorrudda_fetch` it says what a browser would make of the request, and behind
+    /// `fiorrudda_feed` what it would make of the answer. `act` is then what `fiorrudda_act` tells:
+    /// at `ACT_SEND` `TEXT_ORIGIN` and `TEXT_URL` are the URL after upgrades, and the headers are
+    /// those of the request, Origin, Referer and Cookie among them, or of a preflight that goes
+    /// first; at `ACT_OVER` `NUMBER_ERROR` is the refusal. The violations on the way, report-only
+    /// ones too, are held by `violations`, and what it held is freed. The calls of the book are not
+    /// told. Threads that share the book hold one common lock around each call that takes it.
+    ///
+    /// `OK`; `WRONG_HANDLE`, of the fetch or the book; `OUT_OF_MEMORY`, and then the fetch is
+    /// freed, and the book may have done what it was asked on the way. Except for `OK` nothing else
+    /// is changed. A call that comes to no end in 65,536 acts ends at `ACT_ASK` or `ACT_TELL`, and
+    /// is to be made again: `violations` has those since the call before.
+    pub fn fiorrudda_judge(
+        fetch: *mut Handle,
+        book: *mut Handle,
+        violations: *mut Handle,
+        act: *mut u32,
     ) -> u32;
 
     /// Makes in a handle the policies of a header list, parsed and read once (CSP 3, section 2.2,
@@ -1064,6 +1064,23 @@ extern "C" {
     /// `len` bytes for either; `OUT_OF_MEMORY`. Except for `OK` and `NO` nothing is written to
     /// `room`, and with `OUT_OF_MEMORY` nothing to `len`.
     pub fn fiorrudda_play(
+        scenario: *const u8,
+        scenario_len: usize,
+        room: *mut u8,
+        room_len: usize,
+        len: *mut usize,
+    ) -> u32;
+
+    /// Plays a scenario of at most 16 documents over its own servers, as `fiorrudda_play`, and then
+    /// delivers the reports of each document's violations, in order of documents. Writes the text
+    /// of the reports, as `cspreport play` writes one. A call with too little room plays too, and
+    /// the next call plays again.
+    ///
+    /// `OK`; `NO` where the scenario is refused, and then `room` has the place: `json`, or the way
+    /// from the root to the value, which is `/documents` where there are too many; `TOO_SHORT`
+    /// where `room` has less than `len` bytes for either; `OUT_OF_MEMORY`. Except for `OK` and `NO`
+    /// nothing is written to `room`, and with `OUT_OF_MEMORY` nothing to `len`.
+    pub fn fiorrudda_reports(
         scenario: *const u8,
         scenario_len: usize,
         room: *mut u8,

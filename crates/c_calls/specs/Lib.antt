@@ -3,11 +3,6 @@ pub mod Asked
 pub mod Calls
 pub mod Choices
 pub mod Clients
-pub mod Fetches
-pub mod Inputs
-pub mod Judging
-pub mod Parts
-pub mod Private
 pub mod Referrers
 pub mod Sts
 pub mod Terms

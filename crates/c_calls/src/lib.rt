@@ -6,16 +6,10 @@ mod answers;
 mod asked;
 mod choices;
 mod clients;
-mod fetches;
 mod free;
 mod headers;
 mod hosts;
-mod inputs;
-mod judging;
 mod origins;
-mod parts;
 mod policies;
 mod requests;
 mod rules;
-
-pub use inputs::Said;

@@ -1,2 +1,3 @@
 pub mod Audits
 pub mod Plays
+pub mod Reports

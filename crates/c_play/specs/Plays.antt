@@ -19,10 +19,10 @@ pub record IsTextInOrder (scenario : Scenario) (text : Text) : Type 0 where
   pub in_order : AreInOrderFrom 0 history
   pub text_is : text ≡ play_text transcripts history
 
--- Such a text is written.
-pub record IsPrinted (scenario : Scenario) (room after : Text) (len code : ℕ) : Type 0 where
+-- A text that is as it says is written.
+pub record IsPrinted (IsText : Text → Type 0) (room after : Text) (len code : ℕ) : Type 0 where
   pub text : Text
-  pub of : IsTextInOrder scenario text
+  pub of : IsText text
   pub written : IsWritten text room after len code
 
 -- A text by which something is refused is written as texts are, and NO stands where one that is written has OK.
@@ -34,5 +34,5 @@ pub record IsRefusedAt (place room after : Text) (len code : ℕ) : Type 0 where
 
 -- what is told of the scenario that the bytes are, or of the place at which they are refused
 abbrev pub IsPlayed : Result Scenario Place → Text → Text → ℕ → ℕ → Type 0
-IsPlayed (Ok scenario) = IsPrinted scenario
+IsPlayed (Ok scenario) = IsPrinted (IsTextInOrder scenario)
 IsPlayed (Err place) = IsRefusedAt place.text

@@ -6,3 +6,4 @@
 mod audits;
 mod page;
 mod plays;
+mod reports;

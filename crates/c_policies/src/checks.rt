@@ -124,9 +124,9 @@ fn found(
 /// client or the request; `NO_REQUEST` where none can be made of what is asked for, or nothing redirects it;
 /// `NOT_A_URL` and `NOT_HTTP`, of `redirect`; `OUT_OF_MEMORY`. Except for `OK` and `NO` the handle holds what it held.
 ///
-/// A response is blocked where `fiorrudda_violation` tells `enforced` 1 of one of the violations: report-only ones never
-/// block, though the code is `NO` for them. The client's own policies are not asked. A request that a policy or Mixed
-/// Content upgrades is to be asked with its https URL.
+/// A response is blocked where `fiorrudda_violation` tells `enforced` 1 of one of the violations: report-only ones
+/// never block, though the code is `NO` for them. The client's own policies are not asked. A request that a policy or
+/// Mixed Content upgrades is to be asked with its https URL.
 #[unsafe(no_mangle)]
 pub extern "C" fn fiorrudda_check(
     alloc: Global,

@@ -6,8 +6,8 @@ use Rattle.policy_safelist.specs.declared.guard.Guard.TheVariants as guard
 use Rattle.value_requests.specs.declared.policy.Destination.TheVariants as destination
 use Rattle.value_requests.specs.declared.request.Referrer.TheVariants as referrer
 use Rattle.fetch_requests.specs.Words.{BadHeader, BadMethod, BadUrl, Basic, BodyWithGet, Client, Destination}
-use Rattle.fetch_requests.specs.Words.{ForbiddenMethod, Guard, Header, Init, LongUrl, Mode, Navigate, NavigateMode, NoCors}
-use Rattle.fetch_requests.specs.Words.{NoCorsMethod, Pair, Parts, Referrer, Request, Text, TooLong, TypeFault}
+use Rattle.fetch_requests.specs.Words.{ForbiddenMethod, Guard, Header, Init, LongUrl, Mode, Navigate, NavigateMode}
+use Rattle.fetch_requests.specs.Words.{NoCors, NoCorsMethod, Pair, Parts, Referrer, Request, Text, TooLong, TypeFault}
 use Rattle.fetch_requests.specs.Words.{UrlCredentials, appended, contains, has_credentials, is_forbidden_method}
 use Rattle.fetch_requests.specs.Words.{is_get_or_head, is_header_value, is_safelisted_method, is_token, list_after}
 use Rattle.fetch_requests.specs.Words.{normalized, outcome, then_some, unless_long, url_against}

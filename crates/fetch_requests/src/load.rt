@@ -91,9 +91,9 @@ fn made_load(
 /// fonts and manifests, which are as with `anonymous`. With `anonymous` the mode is cors and the
 /// credentials mode same-origin, with `use-credentials` cors and include.
 ///
-/// Its faults are `LongUrl`, where the URL's text has more than 786,432 bytes, and `BadUrl`, where it is not UTF-8, gives
-/// no URL against the client's, or gives one whose text has more than 8,192 bytes. A URL may have a user name and a
-/// password.
+/// Its faults are `LongUrl`, where the URL's text has more than 786,432 bytes, and `BadUrl`, where it is not UTF-8,
+/// gives no URL against the client's, or gives one whose text has more than 8,192 bytes. A URL may have a user name and
+/// a password.
 pub fn new_load(
     alloc: Global,
     init: &LoadInit,

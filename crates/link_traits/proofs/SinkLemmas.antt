@@ -99,7 +99,7 @@ zeros-failed before now e piece counts = elim (eq-or-lt_of_le counts.later) [
 pub written-quiet : {A : Type 0} (r : Result A WriteFault) (old new : SinkTold)
     → new.faults ≡ faults_written old.faults r → new.zeros ≡ zeros_written old.zeros r → OnOk r (NeverFailed old new)
 written-quiet (Ok done) old new faults zeros = (faults, zeros)
-written-quiet (Err fault) old new faults zeros = tt
+written-quiet (Err error) old new faults zeros = tt
 
 -- and where it was not, one did
 pub written-failed : {A : Type 0} (r : Result A WriteFault) (old new : SinkTold)

@@ -2,10 +2,10 @@
 use Rattle.std.specs.Prelude.{◌≡◌, List, ◌∷◌, Option, Some, None}
 use Rattle.value_text.specs.Texts.{Text}
 
--- the address is open
+-- the address is open, where none was before: what comes of listening once more nothing says
 abbrev pub Opened : Option (Option Text) → Option (Option Text) → Text → Type 0
-Opened None new address = Unit {0}
-Opened (Some old) new address = new ≡ Some (Some address)
+Opened (Some None) new address = new ≡ Some (Some address)
+Opened _ new address = Unit {0}
 
 -- of the ends to come the first was given
 abbrev pub GaveFirst : {End : Type 0} → Option (List End) → Option (List End) → End → Type 0

@@ -1,7 +1,7 @@
 // A play of documents one after another.
-ghost use Rattle.std.specs.Prelude.{◌+◌, ◌<◌, length, IfOk};
-ghost use Rattle.book_calls.specs.Entries.{AreInOrderFrom};
-ghost use Rattle.play_definitions.specs.Plays.{IsPlay};
+ghost use Rattle.std.specs.Prelude.{◌≡◌, ◌+◌, ◌<◌, length, IfOk};
+ghost use Rattle.book_calls.specs.Entries.{AreInOrderFrom, book_after};
+ghost use Rattle.play_definitions.specs.Plays.{IsPlay, opening_book};
 ghost use Rattle.play_serial.specs.Private.SoFar.{CameSoFar};
 ghost use Rattle.script_events.specs.Endings.{HasText};
 ghost use Rattle.script_scenarios.specs.Valid.{IsValid};
@@ -65,14 +65,21 @@ fn play_next(
     })
 }
 
-/// Plays a scenario over its own servers, from its own time on: its documents one after another, over one book, which
-/// opens with the scenario's hosts. It is a play as `play_scripted` makes one, and returns.
-/// `OutOfMemory` where memory was refused, to a document or to what surrounds them.
-pub fn play_in_turn(alloc: Global, scenario: &Scenario) -> Result<Played, OutOfMemory>
+/// A play of documents one after another, and the book that it leaves.
+#[derive(Drop)]
+pub struct WithBook {
+    pub played: Played,
+    pub book: Book,
+}
+
+/// Plays as `play_in_turn`, and gives the book that the play leaves, too.
+pub fn play_with_book(alloc: Global, scenario: &Scenario) -> Result<WithBook, OutOfMemory>
     requires { IsValid scenario.now }
-    ensures played { IfOk result (λ played. IsPlay scenario.entry.now played.transcripts played.history) }
-    ensures in_order { IfOk result (λ played. AreInOrderFrom 0 played.history) }
-    ensures has_text { IfOk result (λ played. HasText played.transcripts) }
+    ensures played { IfOk result (λ left. IsPlay scenario.entry.now left.played.transcripts left.played.history) }
+    ensures in_order { IfOk result (λ left. AreInOrderFrom 0 left.played.history) }
+    ensures has_text { IfOk result (λ left. HasText left.played.transcripts) }
+    ensures book { IfOk result (λ left. left.book
+        ≡ book_after (opening_book scenario.entry.now) left.played.history) }
 {
     let book = opened(alloc, scenario.hosts.as_slice())?;
     let history = History::new(alloc);
@@ -86,8 +93,29 @@ pub fn play_in_turn(alloc: Global, scenario: &Scenario) -> Result<Played, OutOfM
         let number = number as u32;
         so_far = play_next(alloc, scenario, number, so_far)?;
     }
-    Ok(Played {
-        transcripts: so_far.transcripts,
-        history: so_far.history,
+    let SoFar {
+        book,
+        history,
+        transcripts,
+    } = so_far;
+    Ok(WithBook {
+        played: Played {
+            transcripts,
+            history,
+        },
+        book,
     })
+}
+
+/// Plays a scenario over its own servers, from its own time on: its documents one after another, over one book, which
+/// opens with the scenario's hosts. It is a play as `play_scripted` makes one, and returns.
+/// `OutOfMemory` where memory was refused, to a document or to what surrounds them.
+pub fn play_in_turn(alloc: Global, scenario: &Scenario) -> Result<Played, OutOfMemory>
+    requires { IsValid scenario.now }
+    ensures played { IfOk result (λ played. IsPlay scenario.entry.now played.transcripts played.history) }
+    ensures in_order { IfOk result (λ played. AreInOrderFrom 0 played.history) }
+    ensures has_text { IfOk result (λ played. HasText played.transcripts) }
+{
+    let left = play_with_book(alloc, scenario)?;
+    Ok(left.played)
 }

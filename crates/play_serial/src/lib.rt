@@ -3,4 +3,4 @@
 
 mod in_turn;
 
-pub use in_turn::play_in_turn;
+pub use in_turn::{WithBook, play_in_turn, play_with_book};

@@ -12,8 +12,8 @@ pub fn law_own_words<L: Link>()
     ensures plays { laws.PlaysTold L.State }
 {}
 
-/// A law: a document calls the shared book at most 129,024 times, whatever comes of its acts; so a play's history has at
-/// most that many entries for each document. The call does nothing.
+/// A law: a document calls the shared book at most 129,024 times, whatever comes of its acts; so a play's history has
+/// at most that many entries for each document. The call does nothing.
 pub fn law_few_calls<L: Link>()
     ensures runs { laws.CallsFew }
     ensures plays { laws.PlaysFew L.State }

@@ -6,4 +6,5 @@ mod program;
 mod text;
 mod words;
 
-pub use program::{ReportStatus, cspreport};
+pub use program::{ReportStatus, cspreport, read_reported};
+pub use text::write_reports;

@@ -85,8 +85,9 @@ fn too_many(alloc: Global) -> Result<Result<Scenario, Place>, OutOfMemory>
     Ok(Err(Place { text }))
 }
 
-// The scenario that a text is, of few enough documents, or the first place at which it is refused.
-fn read_reported(alloc: Global, text: &[u8]) -> Result<Result<Scenario, Place>, OutOfMemory>
+/// The scenario that a text is, of at most 16 documents, or the first place at which it is refused. `OutOfMemory` where
+/// memory was refused.
+pub fn read_reported(alloc: Global, text: &[u8]) -> Result<Result<Scenario, Place>, OutOfMemory>
     ensures value { IfOk result (λ read. read ≡ reported_scenario text.now) }
     ensures valid { IfOk result (λ read. IfOk read IsValid) }
 {

@@ -120,8 +120,9 @@ fn write_pieces<K: Sink>(
     write_text(sink, b"done\n")
 }
 
-// Writes the text of the reports of a play.
-pub(crate) fn write_reports<K: Sink>(
+/// Writes the text of the reports of a play. `Fault` and `TookNothing` are the sink's; `OutOfMemory` where memory was
+/// refused.
+pub fn write_reports<K: Sink>(
     alloc: Global,
     reported: &Reported,
     sink: &mut K,

@@ -1,4 +1,3 @@
-pub mod Generated
 pub mod Program
 pub mod Statuses
 pub mod Streams

@@ -16,7 +16,7 @@ pub use Rattle.program_shell.specs.Inputs.{Reads, Refuses}
 pub use Rattle.program_shell.specs.Program.{AnswersInput, AnswersText, IsDone, IsExcused, IsPlayed, IsWritten}
 pub use Rattle.program_shell.specs.declared.status.Status.{Status}
 pub use Rattle.script_events.specs.declared.events.Transcript.{Transcript}
-pub use Rattle.program_fetchplay.specs.Generated.{generated}
+pub use Rattle.script_generated.specs.Generated.{generated}
 pub use Rattle.script_reading.specs.Scenarios.{scenario_of}
 pub use Rattle.script_reading.specs.declared.place.Place.{Place}
 pub use Rattle.script_runs.specs.Documents.{EachDocument}

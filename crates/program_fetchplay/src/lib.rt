@@ -2,10 +2,7 @@
 #![tactic(auto)]
 
 mod complaint;
-mod generated;
-mod laws;
 mod program;
 mod words;
 
-pub use laws::law_addresses;
 pub use program::{PlayStatus, fetchplay};

@@ -28,8 +28,9 @@ use Rattle.play_seats.proofs.ServerLemmas.{by_bytes, ran-by-rules, ran-state, si
 use Rattle.script_events.specs.Endings.{HasText}
 use Rattle.report_delivery.specs.declared.delivery.Delivered.{Delivered}
 use Rattle.report_delivery.specs.Reporting.{ending_of, reporting}
-use Rattle.report_play.specs.Plays.{EachReported, IsReported, IsReportedPlay}
-use Rattle.report_play.specs.Private.Delivered.{CanReport, EachDelivered, IsDelivered, WasReported}
+use Rattle.report_play.specs.Plays.{EachReported, IsReported, IsReportedInOrder, IsReportedPlay}
+use Rattle.report_play.specs.Private.Delivered.{AreDelivered, CanReport, EachDelivered, IsDelivered, IsLinkTo}
+use Rattle.report_play.specs.Private.Delivered.{WasReported}
 use Rattle.report_play.proofs.ClockLemmas.{document-early, ran-early}
 use Rattle.report_play.proofs.HistoryLemmas.{order-above, order-from, order-of, own-among}
 use Rattle.script_events.specs.declared.events.Ending.{Ending}
@@ -98,6 +99,26 @@ can-report by scenario {number} (EachDocument.one_more {document = document} {ol
     )
     (can-report by scenario played (All-tail HasEnded transcript transcripts text) soon
     (All-tail IsValidDocument document documents valid) (omega (arith, many)))
+
+-- and so it is of a play
+pub can-report-played : {State : Type 0} (by : Answering State) (scenario : Scenario) (scripts : List Entry)
+    {number : ℕ} {documents : List Document} {olds news : List (Way State)} {transcripts : List Transcript}
+    → EachDocument (IsTranscript by scenario scenario.now scripts) number documents olds news transcripts
+    → scenario.now ≤ 1099511627776 → All IsValidDocument documents
+    → number + length documents ≡ length scenario.documents → All (CanReport scenario) transcripts
+can-report-played by scenario scripts EachDocument.none soon valid many = All-nil (CanReport scenario)
+can-report-played by scenario scripts {number} (EachDocument.one_more {document = document} {old = old} {new = new}
+    {transcript = transcript} {documents = documents} {transcripts = transcripts} is played) soon valid many =
+    let here = All-head IsValidDocument document documents valid in
+    All-cons (CanReport scenario) transcript transcripts (
+      omega (arith, is.document_is, many),
+      ran-early by scenario.body_limit number (document_run scenario.cookies scenario.now document)
+          (outside_on old [] is.run_is.before) transcript.events transcript.ending transcript.clock
+          (outside_on new (entries_of number scripts) is.run_is.behind) is.run_is.ran
+          (document-early scenario.cookies scenario.now document soon here.script.valid),
+    )
+    (can-report-played by scenario scripts played soon (All-tail IsValidDocument document documents valid)
+    (omega (arith, many)))
 
 -- as many transcripts as documents
 pub many-transcripts : {State : Type 0} {Is : ℕ → Document → State → State → Transcript → Type 0} {number : ℕ}
@@ -344,6 +365,49 @@ added scenario {number} {documents = document ∷ documents} (EachDelivered.one_
 
 -- ---- the whole
 
+zero_before : (n : ℕ) → 0 + n ≡ n
+zero_before n = omega arith
+
+-- reports that were delivered behind a play, over links to its servers
+reported-behind : (scenario : Scenario) (links : List SimState) (transcripts : List Transcript)
+    (delivereds : List Delivered) (scripts history : List Entry) → IsPlay scenario transcripts scripts
+    → All (ServesAt scenario) links
+    → AreDelivered by_bytes sim_told scenario (book_after (opening_book scenario) scripts) scripts transcripts links
+    delivereds history
+    → (reported : IsReportedPlay scenario transcripts delivereds history) × (reported.scripts ≡ scripts)
+reported-behind scenario links transcripts delivereds scripts history play served delivered =
+    let more = history-legal by_bytes sim_told scenario (opening_book scenario) delivered.1 play.legal play.turns refl
+    in
+    let came = added scenario delivered.1 (are-numbered by_rules scenario scripts play.runs)
+    (λ i. ap (slice_get scenario.documents) (zero_before i)) (zero_before (length scenario.documents)) served in (
+      record {
+        scripts = scripts;
+        reports = came.rest;
+        play = play;
+        history_is = came.whole_is;
+        legal = more.0;
+        turns = more.1;
+        named = subst (AllByRecursion (λ (e : Entry). e.document < length scenario.documents)) (sym came.whole_is)
+            (AllByRecursion-append (λ (e : Entry). e.document < length scenario.documents) scripts came.rest play.named
+            came.named);
+        in_order = came.in_order;
+        documents = came.each [] tt;
+      },
+      refl,
+    )
+
+-- and so the scripts may have come one after another
+pub reported-in-order : (scenario : Scenario) (links : List SimState) (transcripts : List Transcript)
+    (delivereds : List Delivered) (scripts history : List Entry) → IsPlay scenario transcripts scripts
+    → AreInOrderFrom 0 scripts → All (IsLinkTo scenario) links
+    → AreDelivered by_bytes sim_told scenario (book_after (opening_book scenario) scripts) scripts transcripts links
+    delivereds history
+    → IsReportedInOrder scenario transcripts delivereds history
+reported-in-order scenario links transcripts delivereds scripts history play order served delivered =
+    let behind = reported-behind scenario links transcripts delivereds scripts history play
+    (λ k d lt. ap (λ (s : List Server). let o : Option (List Server) = Some s in o) (served k d lt)) delivered in
+    record { reported = behind.0; in_order = subst (AreInOrderFrom 0) (sym behind.1) order }
+
 pub reported-play : (scenario : Scenario) (made : List (Seating SimState TurnPass)) (transcripts : List Transcript)
     (delivereds : List Delivered) (history : List Entry) (link : SimState)
     (opening : ℕ → ℕ → List Route → Option SimState)
@@ -356,26 +420,9 @@ reported-play scenario made transcripts delivereds history link opening servers 
     let play = was.play in
     let first : All (ServesAt scenario) (links_in made) = λ k d lt. at (links_in made) opened k d lt in
     let then = all-serve scenario scripts (links_in made) was.links transcripts first play.runs in
-    let more = history-legal by_bytes sim_told scenario (opening_book scenario) was.delivered.1 play.legal play.turns
-    refl in
-    let came = added scenario was.delivered.1 (are-numbered by_bytes scenario scripts play.runs)
-    (λ i. ap (slice_get scenario.documents) (zero_before i)) (zero_before (length scenario.documents)) then in
-    record {
-      scripts = scripts;
-      reports = came.rest;
-      play = scripts-play scenario scripts (links_in made) was.links transcripts first then play;
-      history_is = came.whole_is;
-      legal = more.0;
-      turns = more.1;
-      named = subst (AllByRecursion (λ (e : Entry). e.document < length scenario.documents)) (sym came.whole_is)
-          (AllByRecursion-append (λ (e : Entry). e.document < length scenario.documents) scripts came.rest play.named came.named);
-      in_order = came.in_order;
-      documents = came.each [] tt;
-    }
+    (reported-behind scenario was.links transcripts delivereds scripts history
+    (scripts-play scenario scripts (links_in made) was.links transcripts first then play) then was.delivered).0
   where
-    zero_before : (n : ℕ) → 0 + n ≡ n
-    zero_before n = omega arith
-
     read : (links : List SimState) (k : ℕ) (d : SimState) → k < length links
         → slice_get links k ≡ Some (get_or links k d)
     read [] k d lt = absurd (omega arith)

@@ -45,3 +45,9 @@ pub record IsReportedPlay (scenario : Scenario) (transcripts : List Transcript) 
   pub named : AllByRecursion (λ (entry : Entry). entry.document < length scenario.documents) history
   pub in_order : AreInOrderFrom 0 reports
   pub documents : EachReported (IsReported scenario reports) 0 scenario.documents transcripts delivereds
+
+-- Such a play whose scripts have called the book one document after another, too.
+pub record IsReportedInOrder (scenario : Scenario) (transcripts : List Transcript) (delivereds : List Delivered)
+    (history : List Entry) : Type 0 where
+  pub reported : IsReportedPlay scenario transcripts delivereds history
+  pub in_order : AreInOrderFrom 0 reported.scripts

@@ -2,6 +2,8 @@
 #![tactic(auto)]
 
 mod deliveries;
+mod in_turn;
 mod play;
 
+pub use in_turn::report_in_turn;
 pub use play::{Reported, play_reported};

@@ -18,7 +18,7 @@ use Rattle.script_scenarios.specs.Scripts.{fetch, wait, no_steps, step}
 use Rattle.script_scenarios.specs.declared.scenario.Scenario.{Scenario}
 use Rattle.script_reading.specs.declared.place.Place.{Place}
 use Rattle.script_scenarios.specs.declared.servers.Server.{Server}
-use Rattle.program_fetchplay.specs.Generated.{address_text, address, generated}
+use Rattle.script_generated.specs.Generated.{address_text, address, generated}
 use Rattle.script_reading.specs.Scenarios.{scenario_of}
 use Rattle.script_scenarios.specs.Servers.{answer}
 use Rattle.script_reading.specs.Answers.{answer_bytes}

@@ -10,6 +10,7 @@ use Rattle.fetch_wire.specs.Exchanges.{Answering}
 use Rattle.play_definitions.specs.declared.seating.Seating.{Seating}
 use Rattle.play_seats.specs.Links.{way_of}
 use Rattle.play_seats.specs.Seated.{links_in}
+use Rattle.play_seats.specs.Sim.{SimState}
 use Rattle.report_delivery.specs.declared.delivery.Delivered.{Delivered}
 use Rattle.report_delivery.specs.Reporting.{ending_of, reporting}
 use Rattle.script_events.specs.declared.events.Transcript.{Transcript}
@@ -20,6 +21,10 @@ use Rattle.book_turns.specs.declared.pass.TurnPass.{TurnPass}
 -- the transcript is of one of the scenario's documents, and ended early enough
 abbrev pub CanReport : Scenario → Transcript → Type 0
 CanReport scenario transcript = (transcript.document < length scenario.documents) × (transcript.clock < 2 ^ 48)
+
+-- the link is to the scenario's servers
+abbrev pub IsLinkTo : Scenario → SimState → Type 0
+IsLinkTo scenario link = link.servers ≡ scenario.servers
 
 -- The reports of a document, which its transcript tells, were delivered over its link and over a book that they had for
 -- themselves. The history has grown by their entries, which are the document's and legal from that book, and leave the

@@ -1,0 +1,6 @@
+pub mod Fetches
+pub mod Inputs
+pub mod Judging
+pub mod Parts
+pub mod Private
+pub mod Terms

@@ -1,7 +1,0 @@
-use Rattle.program_fetchplay.proofs.GeneratedLemmas.{one-more}
-use Rattle.program_fetchplay.proofs.generated.documents.Goals as goal
-
-pub loop-index-preserved : goal.loop-index-preserved
-loop-index-preserved c =
-    one-more c.loop-index.index c.loop-index.documents c.push.new.self c.in_ok-document.field-0
-    c.loop-index.invariant c.in_ok-document.ensures c.in_ok-push.ensures.ok

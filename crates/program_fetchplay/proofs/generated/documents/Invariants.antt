@@ -1,7 +1,0 @@
-use Rattle.std.proofs.Common.{◌≡◌, map}
-use Rattle.std.specs.List.{range_with_len}
-use Rattle.program_fetchplay.specs.Generated.{generated_document}
-use Rattle.program_fetchplay.proofs.generated.documents.Given as goal
-
-abbrev pub invariant-loop-index : goal.invariant-loop-index
-invariant-loop-index l = l.documents ≡ map generated_document (range_with_len 0 l.index)

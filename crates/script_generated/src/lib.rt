@@ -1,0 +1,8 @@
+// The scenario of `fetchplay gen N`.
+#![tactic(auto)]
+
+mod generated;
+mod laws;
+
+pub use generated::generate;
+pub use laws::law_addresses;
