@@ -8,6 +8,8 @@
 // There are no headers for this target.
 typedef __SIZE_TYPE__ size_t;
 typedef __UINT64_TYPE__ uint64_t;
+typedef __UINT32_TYPE__ uint32_t;
+#define UINT32_MAX __UINT32_MAX__
 typedef _Bool bool;
 #define NULL ((void *)0)
 #define true 1
@@ -25,12 +27,13 @@ struct block {
 };
 
 enum { UNIT = 16, HEAD = 8, LEAST = 32, IN_USE = 1, AFTER_USED = 2, MARKS = 15, STEPS = 16, LISTS = STEPS * 64 };
-static const size_t PAGE = 65536, MOST = (size_t)1 << 40;
+// The module's addresses have 32 bits once it is lowered, and some room stays free beyond all blocks.
+static const size_t PAGE = 65536, MOST = ((size_t)1 << 32) - ((size_t)1 << 24);
 
 static struct block *lists[LISTS];
 static uint64_t filled[LISTS / 64]; // which lists have a block
 static char *start, *top, *end;     // the blocks, the end of the last one that was handed out, and of the memory
-static size_t limit = (size_t)1 << 40;
+static size_t limit = ((size_t)1 << 32) - ((size_t)1 << 24);
 static size_t lent; // the bytes of the blocks in use, with their heads
 
 #ifdef __wasm__
@@ -38,7 +41,8 @@ extern char __heap_base;
 static char *memory_begin(void) { return &__heap_base; }
 static char *memory_end(void) { return (char *)(__builtin_wasm_memory_size(0) * PAGE); }
 static size_t memory_size(void) { return __builtin_wasm_memory_size(0) * PAGE; }
-static bool memory_grow(size_t pages) { return __builtin_wasm_memory_grow(0, pages) != (size_t)-1; }
+// A refusal is all ones, of as many bits as an address has.
+static bool memory_grow(size_t pages) { return (uint32_t)__builtin_wasm_memory_grow(0, pages) != UINT32_MAX; }
 #else // for a test: an array that grows
 char fiorrudda_arena[1u << 30] __attribute__((aligned(65536)));
 static size_t arena_pages = 1;
@@ -248,7 +252,7 @@ void *room_grow(void *room, size_t kept, size_t size) {
 }
 
 // Refuses memory beyond so many bytes from now on.
-void room_limit(size_t bytes) { limit = bytes; }
+void room_limit(size_t bytes) { limit = bytes < MOST ? bytes : MOST; }
 
 // How many bytes of the memory lie below the end of the last block.
 size_t room_used(void) { return start ? (size_t)(top - start) : 0; }

@@ -3,9 +3,6 @@
 // Plays in a worker, by the module that the page holds. A worker whose play takes too long or fails is ended, and the
 // next play has another one.
 
-const WITH_MEMORY = new Uint8Array([0, 97, 115, 109, 1, 0, 0, 0, 5, 3, 1, 4, 1]);
-const NO_MEMORY = "this browser has no WebAssembly with 64-bit memory: use Chromium 133, Firefox 134, or a later one";
-
 class WorkerPlayer {
   constructor({ module, worker, seconds, megabytes }) {
     this.packed = module;
@@ -17,9 +14,6 @@ class WorkerPlayer {
   }
 
   async play(text, signal) {
-    if (!WebAssembly.validate(WITH_MEMORY)) {
-      return { failure: NO_MEMORY };
-    }
     this.module = this.module || await WebAssembly.compile(await unpacked(this.packed));
     if (signal.aborted) {
       return { failure: "given up" };

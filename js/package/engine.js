@@ -6,15 +6,6 @@ const TEXTS = 65536; // bytes that hold the texts of most calls
 const ROOM = 1 << 20; // and what most calls write, a play too
 const OUTS = 8; // numbers that a call tells
 
-// The head of a module whose memory has 64-bit addresses: who takes it has such memories.
-const WITH_MEMORY = new Uint8Array([0, 97, 115, 109, 1, 0, 0, 0, 5, 3, 1, 4, 1]);
-export const WANTED = "Fiorrudda needs WebAssembly with 64-bit memory, which is not here: use Node 20, Chromium 133 or "
-  + "Firefox 134, or a later one.";
-
-export function hasMemory64() {
-  return WebAssembly.validate(WITH_MEMORY);
-}
-
 const encoder = new TextEncoder();
 
 export class Engine {

@@ -1,22 +1,11 @@
 // Loads the module that lies beside this file: by Node's file system there, and by `fetch` elsewhere.
-import { Engine, WANTED, hasMemory64 } from "./engine.js";
+import { Engine } from "./engine.js";
 
 const FILE = new URL("fiorrudda.wasm", import.meta.url);
 const isNode = typeof process === "object" && Boolean(process.versions && process.versions.node);
 
 function builtIn(name) {
   return import("node:" + name); // a name that no bundler follows
-}
-
-// Node 20 and 22 have such memories behind a flag, which may be set until a module is compiled.
-async function allowMemory64() {
-  if (isNode && !hasMemory64()) {
-    const { setFlagsFromString } = await builtIn("v8");
-    setFlagsFromString("--experimental-wasm-memory64");
-  }
-  if (!hasMemory64()) {
-    throw new Error(WANTED);
-  }
 }
 
 async function compiled() {
@@ -32,6 +21,5 @@ async function compiled() {
 }
 
 export async function load() {
-  await allowMemory64();
   return new Engine(await compiled());
 }

@@ -3,7 +3,8 @@ its TypeScript declarations, and package.json, so that `npm pack` there makes wh
 
 It is made of the same static libraries as the C library of bin/lib: the LLVM module to which each was lowered when it was
 proved. The same clang compiles them as one for WebAssembly with a 64-bit memory, and they are linked with js/memory.c and
-js/numbers.c."""
+js/numbers.c. Binaryen's wasm-opt then makes that a memory with 32-bit addresses, which all engines have, and in which
+they check no access; a memory of 4 GB is all that it can have."""
 from __future__ import annotations
 
 import argparse
@@ -23,6 +24,9 @@ from tools.libraries import TOP, Word
 NAME = "fiorrudda"
 TARGET = ["--target=wasm64-unknown-unknown", "--no-default-config", "-O2"]
 OWN = ("memory", "numbers")  # of js/
+# What clang uses of WebAssembly beyond its first version.
+FEATURES = ("memory64", "bulk-memory", "sign-ext", "mutable-globals", "nontrapping-float-to-int", "multivalue",
+            "reference-types")
 # What clang says of modules of another target.
 OF_TARGET = ("is not a recognized processor", "different target triples")
 STACK = 1 << 20  # bytes, at the beginning of the memory: what goes beyond traps
@@ -79,6 +83,15 @@ def linked(kit: pathlib.Path, objects: Sequence[Word], made: pathlib.Path, room:
     built.run([linker, *words, *[f"--export={it}" for it in [*exports, *ROOMS]], "-o", made, *objects])
 
 
+def lowered(made: pathlib.Path) -> None:
+    """Makes the 64-bit memory one with 32-bit addresses. What the module was compiled with is said, since it does not."""
+    optimiser = shutil.which("wasm-opt")
+    if optimiser is None:
+        built.fail("wasm-opt is not on the PATH: it comes with binaryen (Debian: apt install binaryen)")
+    features = [f"--enable-{it}" for it in FEATURES]
+    built.run([optimiser, *features, "--memory64-lowering", "-O3", made, "-o", made])
+
+
 def make_module(made: pathlib.Path, room: pathlib.Path, jobs: int) -> None:
     builder = built.builder(built.crates(), room)
     names = built.libraries(builder.known)
@@ -89,6 +102,7 @@ def make_module(made: pathlib.Path, room: pathlib.Path, jobs: int) -> None:
         words = ["-nostdlib", "-ffreestanding", "-ffunction-sections"]
         compiled(clang, words, TOP / "js" / f"{name}.c", room / f"{name}.o")
     linked(builder.kit, [room / f"{it}.o" for it in (NAME, *OWN)], made, room)
+    lowered(made)
 
 
 def copy_package(into: pathlib.Path) -> None:
