@@ -11,8 +11,9 @@ from fiorrudda.places import ROOT
 
 TYPED = [
     "tests/base.py", "tests/sockets.py", "tests/standard.py", "tests/types.py", "tests/commands/cases.py",
-    "tests/commands/loopback.py", "tests/embed", "tests/gallery", "tests/js", "tests/library", "tests/net",
-    "tests/package", "tests/schema", "tests/server",
+    "tests/commands/loopback.py", "tests/commands/pipes.py", "tests/embed", "tests/gallery", "tests/js",
+    "tests/library", "tests/net", "tests/package", "tests/playground", "tests/recorded", "tests/schema",
+    "tests/server",
 ]
 
 

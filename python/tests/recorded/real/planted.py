@@ -62,7 +62,7 @@ class Planted:
 
     @property
     def url(self) -> str:
-        return self.document["url"] + MARK
+        return f"{self.document['url']}{MARK}"
 
     def scripts(self) -> Iterator[str]:
         """What its fetches are in JavaScript."""
