@@ -55,7 +55,7 @@ def one_more(words, asked, only, room, read):
 
 
 ABOUT = """\
-# Of each call of the C library, as bench/calls.c makes it: its name, the nanoseconds of the fastest of 2,000 calls, and
+# Each call of the C library, as bench/calls.c makes it: its name, the nanoseconds of the fastest of 2,000 calls, and
 # the bytes that it asks the heap for. Written by bench/embed.py --calls on %(day)s: do not edit.
 """
 

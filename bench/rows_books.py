@@ -90,7 +90,7 @@ def last_names():
 
 
 def most_hosts():
-    """Of 4,096 hosts, until 100 each but two until 50, the first of these goes for another one."""
+    """The list is full: 4,096 hosts, until 100 each except two until 50. The first of these goes for another one."""
     yield "# Of 4,096 hosts, and one more, the one goes that ends first: of two the first by its bytes."
     hosts = [f"h{number:04}.test" for number in range(4096)]
     for start in range(0, 4096, 16):

@@ -42,7 +42,7 @@ class Sends(NamedTuple):
 
     @classmethod
     def of_request(cls, origin: bytes, request: bytes) -> "Sends":
-        """Of a server's origin, and of all bytes that it is sent."""
+        """What is sent to a server: its origin, and all bytes of the request."""
         head = request[:request.index(b"\r\n\r\n")]
         method, target, _ = head.split(b" ", 2)
         return cls((origin + target).decode("latin-1"), method.decode("latin-1"), head)

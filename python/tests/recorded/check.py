@@ -798,7 +798,7 @@ class Checks(base.Checks):
         self.compare("a site that moves away", [one["header"] for one in moved["hosts"]], [begun + "; includeSubDomains"])
 
     def check_written_urls(self) -> None:
-        """Of a page that is at https then: which URLs go with it its HTML says."""
+        """The HTML of a page that is at https then says which URLs go with it."""
         site, html = "http://shop.test", "<script src='/a.js'></script><script src='http://shop.test/b.js'></script>"
         scripts = map(recordings.script, (site + "/a.js", site + "/b.js", "http://cdn.test/c.js"))
         page = recordings.page(*scripts, recordings.image("https://shop.test/d"), url=site + "/")
@@ -1018,8 +1018,8 @@ class Checks(base.Checks):
             self.compare(f"the lines of {name}", got, [(f"{name}:1", 0), (f"{name}:3", 2), (f"{name}:4", 0), *last])
 
     def check_summary(self, room: str) -> None:
-        """What a policy would do to three recordings. Of their three policies one names no directive, and one reports to
-        nobody."""
+        """What a policy would do to three recordings. One of their three policies names no directive, and one reports
+        to nobody."""
         script, image = recordings.script("https://cdn.test/a.js"), recordings.image("https://cdn.test/a.png")
         policies = [("Content-Security-Policy", "report-uri /reports"),
                     ("Content-Security-Policy-Report-Only", "img-src *"), ("Content-Security-Policy", "img-src *")]

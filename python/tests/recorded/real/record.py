@@ -3,7 +3,7 @@
     recorded/real/record FOLDER [APPLICATION..]
 
 APPLICATION.chromium.har.gz has what Chromium's DevTools events tell, APPLICATION.firefox.har.gz what Firefox's network
-panel exports, and APPLICATION.flow.gz what mitmdump wrote, with Chromium before it. Of bodies those of HTML are kept.
+panel exports, and APPLICATION.flow.gz what mitmdump wrote, with Chromium before it. Bodies of HTML alone are kept.
 It needs dokuwiki, mediawiki, phpmyadmin with mariadb-server, php-cli, chromium, firefox-esr and mitmproxy, of which
 what is not installed is left out and told."""
 from __future__ import annotations
