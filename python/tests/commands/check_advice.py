@@ -634,7 +634,7 @@ class Checks(base.Checks):
         words = " ".join(f"https://a{number}.test" for number in range(100))
         self.compare("a long directive", edits.shortened(words), words)
         told = edits.phrase([edits.policy(0, "img-src", ["*"], before="img-scr " + words)])
-        self.compare("a long directive that is replaced", told, "let policy 0 say `img-src *` in place of `img-scr %s`" % words)
+        self.compare("a long directive that is replaced", told, f"let policy 0 say `img-src *` in place of `img-scr {words}`")
         told = edits.told({"set": "Vary", "value": "Origin", "replaces": "x" * 100})
         self.compare("a long value that is replaced", told, f"`Vary: Origin` in place of `{'x' * 80}..`")
 

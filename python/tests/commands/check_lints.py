@@ -331,8 +331,8 @@ class Checks(base.Checks):
     def test_costs(self) -> None:
         rows = [
             ("a policy of 18,000 words", csp_of("img-src " + "a.test " * 18000)),
-            ("one of 14,000 directives", csp_of("; ".join("scrpt%d" % (number % 97) for number in range(14000)))),
-            ("200 words behind many escapes", csp_of("img-src %s%s" % ("a.test\u00a0 " * 9000, "self; img-src " * 200))),
+            ("one of 14,000 directives", csp_of("; ".join(f"scrpt{number % 97}" for number in range(14000)))),
+            ("200 words behind many escapes", csp_of("img-src " + "a.test\u00a0 " * 9000 + "self; img-src " * 200)),
             ("one that is too long", csp_of("img-src " + "a.test " * 400000)),
             ("30,000 headers", page(*([f"C-Security-Policy-{number}", "a"] for number in range(30000)))),
             ("30,000 fields of HSTS", lint_cases.answer(*[[lint_cases.HSTS, "max-age=1"]] * 30000)),

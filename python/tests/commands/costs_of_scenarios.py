@@ -76,7 +76,7 @@ def large_body(compare: Compare) -> None:
 
 
 def equal_keys(compare: Compare) -> None:
-    text = '{"format": 1, "documents": [], %s}' % ",\n".join(['"now": 1'] * 40000)
+    text = '{"format": 1, "documents": [], ' + ",\n".join(['"now": 1'] * 40000) + "}"
     compare("warnings of 40,000 equal keys", len(asking.Said(text.encode("utf-8"), False, 20).warnings), 39999)
     compare("problems of 40,000 equal keys", Schema(asking.SCHEMA).check(json_text.read(text)), [])
 

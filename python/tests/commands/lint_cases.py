@@ -184,7 +184,7 @@ CSP_URLS = {
     "csp/no-word": (csp_of("img-src https://a_b.test"), csp_of("img-src https://a-b.test")),
 }
 NOTES = {
-    **{"csp/not-played-" + name: (csp_of("connect-src 'self'; %s %s" % (name, OWN_WORDS.get(name, "'self'"))),
+    **{"csp/not-played-" + name: (csp_of(f"connect-src 'self'; {name} " + OWN_WORDS.get(name, "'self'")),
                                   csp_of("connect-src 'self'")) for name in csp.NOT_PLAYED},
     "csp/report-to-and-uri": (page([POLICY, "img-src 'self'; report-uri /csp; report-to csp"], ENDPOINTS),
                               csp_of("img-src 'self'; report-uri /csp")),
@@ -193,7 +193,7 @@ NOTES = {
 }
 CORS_ORIGINS = {
     "cors/origin-twice": (cors(PAGE, [ORIGIN, PAGE]), cors(PAGE)),
-    "cors/origin-quotes": (cors('"%s"' % PAGE), cors(PAGE)),
+    "cors/origin-quotes": (cors(f'"{PAGE}"'), cors(PAGE)),
     "cors/origin-list": (cors("https://a.test, https://b.test"), cors("https://a.test")),
     "cors/origin-path": (cors(PAGE + "/"), cors(PAGE + ":8443")),
     "cors/origin-capitals": (cors("https://Shop.test"), cors(PAGE)),
