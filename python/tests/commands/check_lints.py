@@ -109,8 +109,8 @@ class Checks(base.Checks):
             self.compare(lint.name + ": what to write: " + finding.sentence, says, True)
 
     def test_star(self) -> None:
-        """Of `*` before requests with credentials the origins of the pages that send them are named, and nothing else would
-        do (Fetch, "CORS check")."""
+        """In the place of `*` before requests with credentials the origins of the pages that send them are named, and
+        nothing else would do (Fetch, "CORS check")."""
         star, include = [lint_cases.ORIGIN, "*"], cases.INCLUDE
         font = cases.load("font", crossorigin="use-credentials")
         rows = [
@@ -131,7 +131,7 @@ class Checks(base.Checks):
         self.compare(f"`*`, asked by two: {told}", [part in one for one in told], [True])
 
     def test_codings(self) -> None:
-        """Of a coded answer that caches keep the Vary is told that it lacks, with what is there."""
+        """A coded answer that caches keep lacks a Vary, which is told with what is there."""
         for headers, options, wanted in lint_cases.CODED:
             data = lint_cases.answer(*headers, asks=[cases.fetch(**options)])
             told = [one.sentence for one in found_in(json.dumps(data)) if one.lint.name == "coding/vary-missing"]
