@@ -1,6 +1,6 @@
 #!/usr/bin/env python3
 """Writes the rows of crates/rows_books on a book that are made by a rule, and what a plain list of entries and a plain
-list of hosts come to on all of them: its `stdin` and `stdout`, but for the rows of the wire before them and the calls
+list of hosts come to on all of them: its `stdin` and `stdout`, except the rows of the wire before them and the calls
 of a book after them, which stay as they are. `bench/rows_books.py` compares what is there with what this script would
 write; with `--write` it writes them.
 

@@ -194,7 +194,7 @@ def judge_answer(client: Client, request: Asked, status: int, headers: Listed, b
 
 
 def _head(status: int, headers: Headers, framing: bytes = b"") -> bytes:
-    """The bytes of a head, but for what frames and codes a body."""
+    """The bytes of a head, except what frames and codes a body."""
     if not 0 <= status <= 999:
         raise ValueError(f"{status} is no status")
     pairs = [(name, value) for name, value in headers.pairs() if name.lower() not in _FRAMING]

@@ -389,7 +389,7 @@ class Checks(base.Checks):
             self.compare(f"bin/expect --net {words}: {met.stdout!r}", (met.returncode, says), (status, True))
 
     def test_expect(self) -> None:
-        """Without --strict a fault warns alone; with it the test is not met, but for what a play does not look at."""
+        """Without --strict a fault warns alone; with it the test is not met, except what a play does not look at."""
         wrong, unplayed = (cases.scenario(cases.fetch(), [cases.rule(200, [cases.OK])], headers=[[cases.POLICY, value]])
                            for value in ("conect-src 'self'", "frame-ancestors 'none'"))
         for data, words, status, part in [

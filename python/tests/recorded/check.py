@@ -5,7 +5,7 @@
 - Each way of a refusal that a recording tells is named, where a play of its scenario is written as either browser
   writes it.
 - Where recordings are made of what Chromium and Firefox really did (browsers/corpus), nothing that came is told as
-  refused, nothing that failed as passed, but for what no recording tells; the causes are those of the browsers' own
+  refused, nothing that failed as passed, except what no recording tells; the causes are those of the browsers' own
   reasons, and each other difference has its rule in docs/BROWSERS.md.
 - A recording of real pages by Chromium (recorded/real/record_planted), each with the failure of a way, names that first,
   or a recording cannot tell it.

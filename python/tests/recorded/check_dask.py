@@ -3,7 +3,7 @@
 - where nothing happens;
 - where a worker is killed in mid run, and where all connections of the command to the scheduler are cut;
 - where the command is killed, and goes on;
-- but for one recording that kills its worker each time: that is told and left out.
+- except one recording that kills its worker each time: that is told and left out.
 
 It needs Debian's python3-distributed, and does nothing without it. Plays are made by the program that FETCHPLAY
 names."""

@@ -43,7 +43,7 @@ def write(path: str, text: str) -> str:
 
 
 def copy(folder: str, to: str, without: str) -> None:
-    """Copies a package's folder, with what its links lead to, but for a file at its top. Links that lead nowhere are
+    """Copies a package's folder, with what its links lead to, except a file at its top. Links that lead nowhere are
     left out."""
     subprocess.run(["cp", "-rL", folder, to], stderr=subprocess.DEVNULL)
     with suppress(FileNotFoundError):
