@@ -4,7 +4,7 @@ between them, which serves each change:
     recorded/real/try_changes [APPLICATION..]
 
 - What if: for each change of CHANGES the pages of PAGES are visited with it. What Chromium refuses then is what bin/har
-  says, by the recording of a visit without changes: no request more, none less, except for what a refused one asks for, as
+  says, by the recording of a visit without changes: no request more, none less, except what a refused one asks for, as
   bin/har tells, and for icons, which it asks for once; and what is told to go with these is not asked for.
 - The least policy of --suggest-csp --inline, of a recording of all steps, and Firefox's that is kept, with what its
   notes name of the own origin: the steps are done again under it, in Firefox too, and no violation is reported.
