@@ -67,7 +67,10 @@ class Head:
 
 class Answer:
     """What came for one request. Of a scripted server `server` and `rule` are numbers, or None where there is none;
-    over a network `link` says how the connection went: done, or a word of relay.py."""
+    over a network `link` says how the connection went: done, or a word of relay.py, and `is_ended` that all came that
+    the server sent."""
+
+    is_ended = False
 
     def __init__(self, data: bytes, server: int | None = None, rule: int | None = None,
                  link: str | None = None) -> None:

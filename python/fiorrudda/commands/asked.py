@@ -16,7 +16,7 @@ from fiorrudda.commands.ask_words import Wrong
 from fiorrudda.commands.case import LOCAL, SOCKETS
 from fiorrudda.commands.scenario import Scenario, joined, origin_of
 from fiorrudda.commands.there import there
-from fiorrudda.commands.urls import scheme_of
+from fiorrudda.commands.urls import is_trustworthy, scheme_of
 
 if TYPE_CHECKING:
     import argparse
@@ -36,7 +36,8 @@ READ_OVER = ("%s: %s: Chromium and Firefox read it all the same, and other progr
              "compressed")
 NOT_ALL_CODINGS = ("%s: with `Content-Encoding: %s` Chromium gives the page the bytes as they came, and Firefox decodes "
                    "them, as is done here: name the coding alone")
-ASKED_CODED = "it was asked with `Accept-Encoding: %s` (--compressed), where the play has identity"
+ASKED_CODED = ("it was asked with `Accept-Encoding: %s` (--compressed), the codings that are decoded here, and the "
+               "play has identity, since the engine decodes none; a browser sends this server %s")
 UNCODED = "; it was asked for without a coding: --compressed asks as a browser does"
 VARIES = ("%s: what comes may depend on Accept-Encoding, of which a browser sends its own and this request said identity: "
           "--compressed asks with `%s`")
@@ -204,7 +205,7 @@ class Answered:
         said = self.question.said
         found: list[str | None] = [] if said.page else [OWN_ORIGIN]
         found += said.notes
-        found += [self.of_cookies()] if said.cookies else []
+        found += [self.of_cookies() if said.cookies else self.of_no_cookies()]
         found += [f"{one.origin}: {one.note}" for one in self.wire.exchanges if one.note]
         found += [note for one in self.wire.exchanges for note in self.of_coding(one)]
         found += [self.of_asked_codings()]
@@ -244,8 +245,13 @@ class Answered:
     def of_asked_codings(self) -> str | None:
         """That a browser names other codings, where the answer may depend on that; or None."""
         if self.question.given.compressed:
-            return ASKED_CODED % codings.ACCEPTED
+            return ASKED_CODED % (codings.ACCEPTED, self.codings_of_browsers())
         return VARIES % (self.varying[0], codings.ACCEPTED) if self.varying else None
+
+    def codings_of_browsers(self) -> str:
+        """Which codings a browser names to the server that was asked last."""
+        origins = [exchange.origin for exchange in self.wire.exchanges] or [self.question.origin or ""]
+        return codings.OVER_TLS if is_trustworthy(origins[-1]) else codings.IN_PLAIN
 
     def of_unread(self, case: Case) -> str | None:
         """What is to be said of the body of what an element loads, where nothing here decodes it, or None."""
@@ -268,11 +274,25 @@ class Answered:
         return (f"{case.request.origin}: the body begins as gzip does, and {said}: the page gets it packed: send "
                 f"`Content-Encoding: gzip`{' in its place' if case.coding else ''}")
 
+    @property
+    def is_of_one_site(self) -> bool:
+        """Whether the URL is of the page's site, and over its scheme."""
+        own, page = self.question.origin or "", self.question.page
+        return bool(fiorrudda.same_site(page, own)) and urlsplit(page).scheme == urlsplit(own).scheme
+
+    def of_no_cookies(self) -> str | None:
+        """What decides which cookies a browser sends, where words ask for them and none was given; or None."""
+        own, said = self.question.origin, self.question.said
+        is_asked = said.credentials == "include" or said.crossorigin == "use-credentials"
+        if own is None or not is_asked or fiorrudda.same_origin(self.question.page, own):
+            return None
+        text = notes.NONE_GIVEN_TO_SITE if self.is_of_one_site else notes.NONE_GIVEN_TO_OTHER
+        return text.format(origin=own)
+
     def of_cookies(self) -> str | None:
         """What is to be said of the cookies that were given, or None."""
-        own, page = self.question.origin or "", self.question.page
+        own, page, is_same = self.question.origin or "", self.question.page, self.is_of_one_site
         requests = [request for case in self.told.cases for request, _ in case.chain]
-        is_same = fiorrudda.same_site(page, own) and urlsplit(page).scheme == urlsplit(own).scheme
         if any(play_text.header_of(request, "Cookie") for request in requests):
             return None if is_same else notes.OTHER_SITE.format(origin=own)
         command = self.told.cases[-1].command

@@ -36,6 +36,9 @@ ALGORITHMS = ("sha256", "sha384", "sha512")
 DIGEST = re.compile(r"(?:^|\s)(sha256|sha384|sha512)-([A-Za-z0-9+/_-]+={0,2})(?=[\s?]|$)")
 CHUNK_LINE = re.compile(rb"([0-9a-fA-F]{1,16})[^\r\n]*\r\n")
 MOST_REDIRECTS = 20
+# As browsers tell it of a fetch.
+FAILS = "; reading it fails in Chromium (%s) and in Firefox (a TypeError)"
+REFUSES = "in Chromium net::ERR_RESPONSE_HEADERS_MULTIPLE_CONTENT_LENGTH, in Firefox a NetworkError; "
 GZIP = b"\x1f\x8b"
 ARCHIVES = ("gzip", "/octet-stream", "tgz")  # ends of the types of files that are to stay packed
 # Schemes that a browser loads by itself, and this engine does not.
@@ -812,9 +815,15 @@ class Case:
     @property
     def is_open(self) -> bool:
         """Whether a browser goes on where this engine ends, and no policy refuses it."""
-        is_coded = self.result.number == 23 and not self.result.is_fault
-        return is_coded or (self.is_unloaded and not self.is_mixed_socket
-                            and not any(one.enforced for one in self.violations))
+        if self.result.number == 23 and not self.result.is_fault:
+            return self.is_read_by_some
+        return self.is_unloaded and not self.is_mixed_socket and not any(one.enforced for one in self.violations)
+
+    @property
+    def is_read_by_some(self) -> bool:
+        """Whether some browser reads a coded body, as far as it is known what is wrong in it."""
+        is_broken = self.wrong_coding is not None or self.is_cut_chunks and self.coded_fault is not None
+        return not is_broken and len(self.lengths) < 2
 
     @property
     def verdict(self) -> str:
@@ -894,11 +903,52 @@ class Case:
         is_refused = self.result.is_refused() and self.head is not None and self.is_direct
         return is_refused and self.has_body and len(self.lengths) > 1 and there(self.explanation).way != "body/two-lengths"
 
+    @cached_property
+    def coded_fault(self) -> Cut | None:
+        """What is wrong in a coded body of a real server that the engine did not read, as far as it came, or None."""
+        is_unread = self.is_net and not self.is_direct and self.result.number == 23 and not self.result.is_fault
+        if not is_unread:
+            return None
+        from fiorrudda.commands import codings
+        return codings.fault_in(self.head, codings.pieces_of(self.answer), codings.names_of(self.coding))
+
     @property
     def cut(self) -> Cut | None:
-        """What is wrong in a coded body that was decoded here (codings.py), or None."""
+        """What is wrong in a coded body (codings.py), or None."""
         stream = getattr(self.answer, "stream", None)
-        return stream.cut or self.unread if stream else None
+        return stream.cut or self.unread if stream else self.coded_fault
+
+    @property
+    def is_cut_coded(self) -> bool:
+        """Whether a coded body that the engine did not read ends before its framing does."""
+        return self.coded_fault is not None and self.coded_fault.coding is None
+
+    @property
+    def is_cut_chunks(self) -> bool:
+        """Whether a body in chunks ends without the last one, though what came of it fits."""
+        if (self.get("Transfer-Encoding") or "").lower() != "chunked":
+            return False
+        chunks = answers.Chunks()
+        chunks.feed(self.answer.data[self.head.end:])
+        return not chunks.is_whole and not chunks.is_broken
+
+    @property
+    def as_decoded(self) -> str:
+        """What browsers make of a body that is not of its coding (docs/BROWSERS.md)."""
+        return "" if self.is_direct else FAILS % "net::ERR_CONTENT_DECODING_FAILED"
+
+    @property
+    def as_cut(self) -> str:
+        """What browsers make of a body that ends before its framing does (docs/BROWSERS.md), where that is known."""
+        if self.is_cut_chunks:
+            return FAILS % "net::ERR_INCOMPLETE_CHUNKED_ENCODING"
+        if (self.wrong_length or 0) <= self.count or len(self.lengths) > 1:
+            return ""
+        if self.is_of_text:
+            return "; Chromium and Firefox read it once the connection closes, and wait until then"
+        if self.coded_fault or self.status // 100 != 2:
+            return "; reading it fails in Chromium (net::ERR_CONTENT_LENGTH_MISMATCH), and Firefox takes what came"
+        return FAILS % "net::ERR_CONTENT_LENGTH_MISMATCH"
 
     @property
     def wrong_coding(self) -> str | None:
@@ -923,9 +973,10 @@ class Case:
     def as_measured(self) -> str:
         """What browsers make of a coded body that is cut (docs/BROWSERS.md), where no integrity text is compared."""
         stream = getattr(self.answer, "stream", None)
-        if not stream or self.result.is_refused() or self.link in ("hang", "reset"):
+        is_known = self.coded_fault is not None or stream and not self.result.is_refused()
+        if not is_known or self.link in ("hang", "reset"):
             return ""
-        made = len(self.answer.body()) if stream.is_opened else there(self.cut).made
+        made = len(self.answer.body()) if stream and stream.is_opened else there(self.cut).made
         does = "run what was decoded" if self.kind == "script" else "take what was decoded"
         return f"; Chromium and Firefox {does}, {made} byte{'' if made == 1 else 's'}, without an error"
 
@@ -1035,6 +1086,11 @@ class Case:
                                    " and ".join(word or "an empty one" for word in self.lengths))
 
     @property
+    def as_refused(self) -> str:
+        """How browsers tell of two lengths."""
+        return "" if self.is_direct else REFUSES
+
+    @property
     def wrong_length(self) -> int | None:
         """Content-Length, where another number of bytes came; else None."""
         length = answers.Answer.length(self.answer)
@@ -1057,11 +1113,10 @@ class Case:
     @property
     def is_of_text(self) -> bool:
         """Whether Content-Length is the length of the text before it was compressed."""
-        stream = getattr(self.answer, "stream", None)
-        if stream is None or self.wrong_length is None:
+        stream, unread = getattr(self.answer, "stream", None), self.coded_fault or self.unread
+        if self.wrong_length is None or stream is None and unread is None:
             return False
-        made = len(self.answer.body()) if stream.is_opened else self.unread and self.unread.made
-        return self.wrong_length == made
+        return self.wrong_length == (len(self.answer.body()) if stream and stream.is_opened else unread and unread.made)
 
     @property
     def whole_again(self) -> str:

@@ -2,6 +2,7 @@
 at the first try: the answer that redirects, the preflight at its target, the answer there."""
 from __future__ import annotations
 
+import copy
 from collections import namedtuple
 from typing import TYPE_CHECKING, Iterator
 
@@ -21,16 +22,41 @@ MOST = 20  # redirects that are followed
 OF_BODIES = ("content-encoding", "content-language", "content-location", "content-type")
 NULL = ("the redirect to {url} leads from one foreign origin to another, so the request says `Origin: null`, which no "
         "server should allow: let the page ask for {url} itself, or redirect within one origin")
+THEN = "then "
 # What follows: what CORS wants of the answers at each URL, sentences on what else stands in the way, and the violations
 # of enforced policies.
 Ahead = namedtuple("Ahead", "needs sentences violations")
 NOTHING = Ahead([], [], [])
 
 
+def in_place_of_null(c: Case) -> Needs:
+    """What CORS wants at the last request: `*` where a detour has taken its origin, no credentials go along, and `null`
+    is not allowed already."""
+    needs = copy.copy(c.needs_told)
+    is_allowed = c.allowed_origin == "null"
+    needs.origin = "*" if needs.origin == "null" and not (c.includes or is_allowed) else needs.origin
+    return needs
+
+
+def is_guessed(c: Case) -> bool:
+    """Whether a preflight is led on, and it is not known whether the request is, too."""
+    return is_preflight(c.request) and c.is_redirect and c.own_head is None
+
+
+def lines(c: Case, found: Ahead) -> list[str]:
+    """What is to be said of that; where it is not known that the request is led on, with that condition."""
+    led = f"where {c.method} is redirected as OPTIONS is, " if is_guessed(c) else ""
+    said = [line for needs in found.needs for line in needs.lines()] + found.sentences
+    return [line if line.startswith(THEN) else led + line for line in said]
+
+
 def ahead(c: Case) -> Ahead:
     """All that follows on the last request of a case, as far as the answers are known."""
-    needs, headers = c.needs_told, headers_now(c)
+    needs, headers = in_place_of_null(c), headers_now(c)
+    needs.own = c.head if is_guessed(c) else needs.own
     found, seen = Ahead([], [], []), {(needs.method, needs.url)}
+    if needs.origin == "null":
+        return found._replace(sentences=list(of_null(c, needs.url, needs)))
     while is_followed(c, needs) and len(found.needs) < MOST:
         asked, url = needs.url, joined(there(needs.own).get("Location") or "", needs.url).partition("#")[0]
         method = method_after(needs.method, there(needs.own).status)
@@ -44,10 +70,16 @@ def ahead(c: Case) -> Ahead:
         needs = following(c, needs, method, url, headers)
         found.violations.extend(violations(c, url))
         if needs.origin == "null":
-            found.sentences.extend([NULL.format(url=url), *("then " + line for line in itself(c, needs).lines())])
+            found.sentences.extend(of_null(c, url, needs))
             break
         found.needs.append(needs)
     return found
+
+
+def of_null(c: Case, url: str, needs: Needs) -> Iterator[str]:
+    """What is to be said of a URL to which a detour leads with credentials, and of what its answers need without it."""
+    yield NULL.format(url=url)
+    yield from (THEN + line for line in itself(c, needs).lines())
 
 
 def headers_now(c: Case) -> list[tuple[str, str]]:

@@ -177,8 +177,12 @@ def origin_null(c: Case) -> Ways:
                   c.has_listener, c.varies)
     itself = ask_for(c.asked_url, c) + ([] if origin_of(c.asked_url) == c.page_origin else needs.all_edits())
     star = [{**edit, "value": "*"} if edit["value"] == "null" else edit for edit in cors(c)[0]]
-    is_loop = c.asked_url in [hop.sent for hop in c.hops[:-1]] or c.comes_back
-    return ([] if is_loop else [itself]) + ([] if c.includes else [star])
+    return ([] if leads_back(c) else [itself]) + ([] if c.includes else [star])
+
+
+def leads_back(c: Case) -> bool:
+    """Whether the last URL was asked for before, or its answer leads back."""
+    return c.asked_url in [hop.sent for hop in c.hops[:-1]] or c.comes_back != ""
 
 
 def method_in_another_case(c: Case) -> Ways:
@@ -345,9 +349,9 @@ def with_words(c: Case, words: list[str]) -> list[Edit]:
     return policy_edits(c, more)
 
 
-def by_nonce(c: Case, words: list[str]) -> list[Edit]:
+def by_nonce(c: Case, words: list[str], new: str = "r4nd0m") -> list[Edit]:
     """One nonce at the element and in all policies: a new one where there is none."""
-    value = c.common_nonce or "r4nd0m"
+    value = c.common_nonce or new
     words = words if value in csp.nonces(words) else [*words, f"'nonce-{value}'"]
     more = policy_edits(c, words) if words != c.directive[1] else []
     return more + ([edits.request("nonce", value)] if value != c.nonce else [])
@@ -359,6 +363,16 @@ def nonce(c: Case) -> Ways:
 
 def add_source(c: Case) -> Ways:
     return [with_words(c, own_words(c))]
+
+
+def add_source_or_nonce(c: Case) -> Ways:
+    """The URL's word; or for a script or a style a nonce, where the policy has none yet, and no word that a nonce takes
+    the meaning from ('unsafe-inline')."""
+    words = own_words(c)
+    is_of_proofs = csp.nonces(words) or {"'strict-dynamic'", "'unsafe-inline'"}.intersection(map(str.lower, words))
+    is_new = c.kind in ("script", "style") and not is_of_proofs and not csp.passes(words, c.policy_asked)
+    own = [c.nonce] if csp.NONCE.fullmatch(f"'nonce-{c.nonce}'") else []
+    return add_source(c) + ([by_nonce(c, words, *own)] if is_new else [])
 
 
 def put_quotes(c: Case) -> Ways:

@@ -15,7 +15,7 @@ if TYPE_CHECKING:
     from collections.abc import Callable, Iterator
     from typing import Any
 
-    from fiorrudda.commands.answers import Head
+    from fiorrudda.commands.answers import Answer, Head
 
 try:
     import brotli
@@ -31,6 +31,8 @@ LONGEST_HEAD = 65536  # bytes before the data of gzip
 # The codings that browsers decode: of another one the page gets the bytes as they came.
 BROWSERS = ("gzip", "x-gzip", "deflate", "br", "zstd", "dcb", "dcz")
 ACCEPTED = "gzip, deflate" + ("" if brotli is None else ", br")  # what is decoded here, as a request says it
+# What Chromium and Firefox name in a request over TLS or to their own machine, and in one in plain.
+OVER_TLS, IN_PLAIN = "`gzip, deflate, br, zstd`", "`gzip, deflate`, and br and zstd over https alone"
 NO_BODY = (101, 103, 204, 205, 304)
 ERRORS = (zlib.error,) if brotli is None else (zlib.error, brotli.error)
 
@@ -359,6 +361,13 @@ def framing_of(head: Head) -> Callable[[Iterator[bytes]], Iterator[bytes]] | Non
         return lambda pieces: pieces
     length = length_of(there(head.get("Content-Length")))
     return None if length is None else functools.partial(counted, length=length)
+
+
+def pieces_of(answer: Answer) -> Iterator[bytes]:
+    """What came of a body; what is still to come where the server has not ended is not known."""
+    yield answer.data[there(answer.head).end:]
+    if not answer.is_ended:
+        raise Unknown
 
 
 def fault_in(head: Head, pieces: Iterator[bytes], names: list[str]) -> Cut | None:

@@ -152,6 +152,17 @@ def is_star_gone(edit: Edit) -> bool:
     return edit["set"] in STARRED and was and not is_now
 
 
+def is_of_headers(way: Iterable[Edit]) -> bool:
+    """Whether a way changes headers of answers or policies of the page alone."""
+    return all(edit["at"] in ("answer", "preflight") or "policy" in edit for edit in way)
+
+
+def are_said(way: Iterable[Edit], lines: Iterable[str]) -> bool:
+    """Whether lines name all headers of a way."""
+    text = "\n".join(lines)
+    return all(line_of(edit) in text for edit in way if edit.get("set") not in (None, "status"))
+
+
 def listed(texts: Iterable[str]) -> str:
     texts = list(texts)
     return " and ".join(filter(None, [", ".join(texts[:-1]), texts[-1]]))

@@ -412,7 +412,7 @@ def whole_lines(scenario: Scenario, told: Told, passing: list[Passing], lacking:
         name = f"document {number}: " if len(scenario.documents()) > 1 else ""
         for one in whole(scenario, number, own, is_wanted, lacking.get(number, {})):
             if one.is_told and (one.mended.slips or not is_met):
-                yield name + one.line()
+                yield name + one.line(True)
 
 
 def differences(expect: Object, told: Told, passing: list[Passing]) -> Iterator[str]:

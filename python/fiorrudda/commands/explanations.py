@@ -14,6 +14,7 @@ from typing import TYPE_CHECKING, NamedTuple
 from fiorrudda.commands import chains, changes, csp, edits
 from fiorrudda.commands.needs import (ALLOW_CREDENTIALS, ALLOW_HEADERS, ALLOW_METHODS, ALLOW_ORIGIN, EXPOSE_HEADERS,
                                       TOKEN)
+from fiorrudda.commands.play_text import is_preflight
 from fiorrudda.commands.there import there
 from fiorrudda.commands.urls import scheme_of
 
@@ -212,14 +213,15 @@ POLICIES = [
         "{c.policy} has `{c.directive_text}`, and a digest of the element's integrity text is not among its hashes", "",
         "{change}", POLICY, changes.add_hashes),
     Way("policy/nothing-allowed", "4", lambda c: [word.lower() for word in c.directive[1]] in ([], ["'none'"]),
-        "{c.policy} has `{c.directive_text}`, which lets nothing pass", "", "{change}", POLICY, changes.add_source),
+        "{c.policy} has `{c.directive_text}`, which lets nothing pass", "", "{change}", POLICY,
+        changes.add_source_or_nonce),
     Way("policy/loopback-address", "4", lambda c: c.is_policy_loopback,
         "{c.policy} has `{c.directive_text}`, where browsers match `127.0.0.1`, as CSP 3 has it, and this engine matches "
         "no IP address", "", "a browser needs no change; for a verdict here {change}", WORDS, changes.add_source),
     Way("policy/ip-address", "4", lambda c: c.is_policy_address,
         "{c.policy} has `{c.directive_text}`, and the host of {c.policy_url} is an IP address, which no word with a host "
         "matches", "",
-        "{change}; or give the server a name", WORDS, changes.add_source),
+        "{change}; or give the server a name", WORDS, changes.add_source_or_nonce),
     Way("policy/colon", "4", lambda c: c.near_fault == "colon",
         "{c.policy} has `{c.directive_text}`, where `{c.near_text}` lacks its colon (`{c.near_written}`), and so is the "
         "name of a host", "", "{change}", WORDS, changes.rewrite),
@@ -247,10 +249,10 @@ POLICIES = [
         "{c.policy} has `{c.directive_text}`, and the element has no nonce", "", "{change}", POLICY, changes.nonce_or_source),
     Way("policy/after-redirect", "4", lambda c: c.violated.redirected,
         "{c.policy} has `{c.directive_text}`, and no word of it matches {c.policy_url}, where the redirect leads", "",
-        "{change}; the path of a word does not count after a redirect", POLICY, changes.add_source),
+        "{change}; the path of a word does not count after a redirect", POLICY, changes.add_source_or_nonce),
     Way("policy/no-word", "4", always,
         "{c.policy} has `{c.directive_text}`, and no word of it matches {c.policy_url}", "", "{change}", POLICY,
-        changes.add_source),
+        changes.add_source_or_nonce),
 ]
 
 BEFORE_SENDING = UNLOADED + [
@@ -344,15 +346,15 @@ ANSWERS = [
     Way("integrity/no-body", "22", lambda c: not c.has_body,
         "an answer with the status {c.status} to {c.request.method} has no body that could match", "",
         "{change}", BODY, changes.body_or_no_integrity),
-    Way("body/not-its-coding", "22 s", lambda c: c.is_short and c.wrong_coding is not None,
-        "{c.coding_fault}{c.but_gzip}", "Content-Encoding",
+    Way("body/not-its-coding", "22 23 s", lambda c: c.is_short and c.wrong_coding is not None,
+        "{c.coding_fault}{c.but_gzip}{c.as_decoded}", "Content-Encoding",
         "{c.right_coding}", "../why.md#binask"),
-    Way("body/coding-cut", "22 s", lambda c: c.is_short and c.cut_coding is not None,
+    Way("body/coding-cut", "22 23 s", lambda c: c.is_short and c.cut_coding is not None,
         "the {c.cut_coding} body is cut{c.but_length}{c.as_measured}", "{c.cutting_header}", "{c.whole_coding}",
         "../why.md#binask"),
-    Way("body/two-lengths", "22 s", lambda c: c.is_short and len(c.lengths) > 1,
+    Way("body/two-lengths", "22 23 s", lambda c: c.is_short and len(c.lengths) > 1,
         "the answer has {c.lengths_told}: both browsers make that a network error "
-        "(docs/BROWSERS.md#bytes-on-the-wire)", "Content-Length", "let one of them alone stand there, the right one",
+        "({c.as_refused}docs/BROWSERS.md#bytes-on-the-wire)", "Content-Length", "let one of them alone stand there, the right one",
         "answers.md#the-body", changes.right_length),
     Way("integrity/incomplete", "22", lambda c: c.is_cut,
         "the body did not come whole", "Content-Length", "send all of it, and its right length", BODY, changes.right_length),
@@ -369,7 +371,7 @@ ANSWERS = [
     Way("integrity/mismatch", "22", always,
         "the body that came is not the one of the integrity text", "",
         "make the digest anew of the bytes as they are sent: {change}", BODY, changes.integrity),
-    Way("no-verdict/coded", "23", always,
+    Way("no-verdict/coded", "23", lambda c: not c.is_cut_coded,
         "no verdict: the body is coded, and this engine decodes none (requests say `Accept-Encoding: identity`); a "
         "browser would, and CORS, policies and types let it", "Content-Encoding",
         "for a verdict here send the body uncoded, and {change}; a browser needs no change", BODY,
@@ -484,8 +486,8 @@ SEEN = [
     Way("seen/opaqueredirect", "s", lambda c: c.result.type == "opaqueredirect",
         "the answer redirects ({c.status}), and the redirect mode is manual: the script does not see where to", "Location",
         "{change}: the URL of the response is the last one", "responses.md#types", changes.follow),
-    Way("seen/body-cut", "s", lambda c: c.result.ending == "cut" or c.is_spoilt,
-        "the body ends before the end that its head announced, or does not fit it", "{c.framing_header}",
+    Way("seen/body-cut", "23 s", lambda c: c.result.ending == "cut" or c.is_spoilt or c.is_cut_coded,
+        "the body ends before the end that its head announced, or does not fit it{c.as_cut}", "{c.framing_header}",
         "{c.whole_again}", "answers.md#the-body", changes.right_length),
     Way("seen/body-hang", "s", lambda c: c.result.ending == "fault" and c.is_silent,
         "the head came, and the body did not end before the time limit", "",
@@ -527,7 +529,8 @@ TABLE = DIRECT + CORS_CHECK + PREFLIGHTS + BEFORE_SENDING + ANSWERS + LINKS + RE
 
 
 # Parts of conditions that are there for some fetches alone, and an answer that stands for that to a preflight too.
-SOMETIMES = re.compile(r"\{c\.(?:where|back_where|next_differs|no_cookie|but_known|why_scheme|but_gzip|but_length|as_measured|though_read)\}")
+SOMETIMES = re.compile(r"\{c\.(?:where|back_where|next_differs|no_cookie|but_known|why_scheme|but_gzip|but_length|"
+                       r"as_measured|as_decoded|as_cut|as_refused|though_read)\}")
 
 
 def way_lines() -> Iterator[str]:
@@ -546,7 +549,8 @@ UNSENT = [way for way in TABLE if way.results in ("3", "4") or way.name in ("hea
 
 class Explanation:
     """A way that holds of a case, with its texts filled in. `edits` are the change as data (edits.py), and `others`
-    what would do in its place, which `change` says too, and `first_change` does not."""
+    what would do in its place, which `change` says too, and `first_change` does not. `of_headers` says those of them
+    that change headers alone, where the first changes more and no line `in all` has them."""
 
     def __init__(self, way: Way, c: Case) -> None:
         condition, change, rule = way.condition, way.change, way.rule
@@ -582,18 +586,21 @@ class Explanation:
             self.tell_chain(c, is_asked)
         elif way in UNSENT and c.about is None:
             self.in_all = c.lacking_behind
+        of_headers = [] if edits.is_of_headers(self.edits) else list(filter(edits.is_of_headers, self.others))
+        self.of_headers = [edits.phrase(one, asked) for one in of_headers if not edits.are_said(one, self.in_all)]
 
     def tell_chain(self, c: Case, is_asked: bool) -> None:
         """What CORS wants of each answer, up to the last of the chain."""
-        own = c.needs_told
-        ahead = chains.ahead(c) if c.origin != "null" and self.way != "redirect/cycle" else chains.NOTHING
-        last = ahead.needs[-1] if ahead.needs else own
+        own, is_led_back = chains.in_place_of_null(c), c.origin == "null" and changes.leads_back(c)
+        ahead = chains.NOTHING if self.way == "redirect/cycle" or is_led_back else chains.ahead(c)
+        last = ahead.needs[-1] if ahead.needs and not chains.is_guessed(c) else own
         self.exposing = changes.expose_too(c, last)
-        if is_asked:
+        is_of_null = own.origin == "*" and not is_led_back
+        if is_asked or is_of_null and is_preflight(c.request):
             self.in_all, self.chain = own.lines(), own.by_answer()
-        elif ahead.needs or ahead.sentences or ahead.violations:
+        elif is_of_null or own.origin != "null" and any(ahead):
             self.in_all, self.chain = [own.own_line()], own.by_answer()[-1:]
-        self.in_all += [line for needs in ahead.needs for line in needs.lines()] + ahead.sentences
+        self.in_all += chains.lines(c, ahead)
         self.in_all += [let_pass(c.of_violation(one)) for one in ahead.violations]
         self.chain += [one for needs in ahead.needs for one in needs.by_answer()]
         self.in_all += [exposed(edit, last.own is None) for edit in self.exposing]
@@ -615,7 +622,7 @@ class Explanation:
         return [*reasons, "change: " + self.change, *("in all: " + line for line in self.in_all), rule]
 
     def data(self) -> Object:
-        return {name: value for name, value in self.__dict__.items() if name != "first_change"}
+        return {name: value for name, value in self.__dict__.items() if name not in ("first_change", "of_headers")}
 
 
 class PolicyExplanation(Explanation):

@@ -116,7 +116,7 @@ class Needs:
     def of_vary(self) -> Wanted:
         """That caches keep an answer which allows one origin for pages of that one alone (Fetch, "CORS protocol and
         HTTP caches")."""
-        is_one_of_many = self.varies and self.origin not in ("null", origin_of(self.url))
+        is_one_of_many = self.varies and self.origin not in ("null", "*", origin_of(self.url))
         if not (is_one_of_many and self.method in KEPT_METHODS):
             return []
         if self.own and "no-store" in items_of((self.own.get("Cache-Control") or "").lower()):
@@ -225,7 +225,7 @@ class Needs:
     def where_trusted(self, head: Head | None) -> str:
         """What is to be said of an answer that allows the origin of another page, which goes on to ask."""
         allowed = head.get(ALLOW_ORIGIN) if head else None
-        is_other = allowed is not None and allowed != self.origin and origin_of(allowed) == allowed
+        is_other = allowed is not None and self.origin not in (allowed, "*") and origin_of(allowed) == allowed
         return WHERE_TRUSTED if is_other else ""
 
     def known(self) -> str:

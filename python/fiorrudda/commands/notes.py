@@ -23,9 +23,14 @@ IN_A_BROWSER = "in a browser "
 MAY_STAY = IN_A_BROWSER + "%s may stay http"
 LOOPBACK = (MAY_STAY + ": Chromium and Firefox leave `http://127.0.0.1` alone, where the standard upgrades it "
             "(docs/BROWSERS.md)")
+SAME_SITE = ("Chromium sends them only where they were set with SameSite=None and Secure, and many users block them, "
+             "but for those with `Partitioned` too, which are kept for each site at the top (CHIPS; docs/BROWSERS.md)")
 OTHER_SITE = ("the cookies of {origin} go to another site than the page's, and a browser also applies SameSite, "
-              "which this engine does not play: Chromium sends them only where they were set with SameSite=None and "
-              "Secure, and many users block them (docs/BROWSERS.md)")
+              "which this engine does not play: " + SAME_SITE)
+NONE_GIVEN = ("it was asked with credentials and without a cookie, since no word gives one (--cookie): a browser sends "
+              "those that it has of {origin}, which is ")
+NONE_GIVEN_TO_SITE = NONE_GIVEN + "of the page's own site, so SameSite keeps none back"
+NONE_GIVEN_TO_OTHER = NONE_GIVEN + "of another site: " + SAME_SITE
 
 PASSED_FIRST = "once the preflight passes, "
 

@@ -18,6 +18,8 @@ if TYPE_CHECKING:
     from typing import Any
 
 OWN = "a browser sends its own"
+OWN_AGENT = (OWN + ", which asks for no preflight; where a script sets one, Firefox sends that and asks another origin "
+             "for a preflight first, and Chromium sends its own")
 CACHE = "a browser's cache adds it"
 ELEMENT = "an element sets no header"
 NO_CORS = f"in mode no-cors a script sets {', '.join(guards.NO_CORS)} alone"
@@ -29,7 +31,7 @@ HERE = {
 }
 # Headers that browsers add themselves.
 ADDED = {
-    "user-agent": OWN + ", which asks for no preflight",
+    "user-agent": OWN_AGENT,
     "priority": OWN,
     "authority": "a browser sends the host of the URL",
     "alt-used": OWN,
@@ -156,6 +158,8 @@ class Said:
                       % ", ".join(f"`{name}`" for name in hints))
 
     def reason_against(self, word: str, value: str) -> str | None:
+        if word == "user-agent" and (self.load or self.mode == "no-cors"):  # where no script sets one
+            return OWN
         if word in ADDED:
             return ADDED[word]
         if word == "cache-control" and value.lower() == "no-cache" and "pragma" not in self.values:

@@ -10,9 +10,10 @@ import selectors
 import socket
 import struct
 import threading
+import time
 from typing import TYPE_CHECKING
 
-from fiorrudda.commands.answers import Pieces
+from fiorrudda.commands.answers import Answer, Pieces
 
 if TYPE_CHECKING:
     from collections.abc import Callable, Iterable
@@ -20,17 +21,20 @@ if TYPE_CHECKING:
 
 PIECE = 65536
 CONNECT = 10  # seconds
+SOON = 0.5  # seconds for what is still to come of a body that the program does not read
+MOST_UNREAD = 1048576
 
 
 class Connection:
     """One request and its answer, as bytes; `link` says how it went: done, refused, unreached, unknown-name, hang,
-    reset."""
+    reset. `is_ended` says that the server sent all that it had to send."""
 
     def __init__(self, address: str) -> None:
         self.address = address
         self.asked = Pieces()
         self.answered = Pieces()
         self.link = "done"
+        self.is_ended = False
 
     @property
     def request(self) -> bytes:
@@ -91,7 +95,10 @@ class Relay:
                 peer.settimeout(self.patience)
                 connection.asked.add(peer.recv(PIECE))
             else:
-                connection.link = Carrier(peer, server, connection, self.patience).run()
+                carrier = Carrier(peer, server, connection, self.patience)
+                connection.link = carrier.run()
+                if connection.link == "done":
+                    carrier.take_rest()
         except OSError:
             connection.link = "reset"
         if connection.link != "done":
@@ -162,7 +169,7 @@ class Carrier:
     def take_answer(self) -> bool:
         data = self.server.recv(PIECE)
         self.connection.answered.add(data)
-        self.has_ended = not data
+        self.has_ended = self.connection.is_ended = not data
         if self.has_ended:
             self.selector.unregister(self.server)
         try:
@@ -170,3 +177,24 @@ class Carrier:
         except OSError:  # hung up
             return False
         return True
+
+    def take_rest(self) -> None:
+        """Takes what comes soon of a coded body, which the program does not read, for what is to be said of it."""
+        until, kept = time.monotonic() + SOON, self.connection.answered
+        if self.has_ended or not is_coded(kept.joined()):
+            return
+        while len(kept.data) < MOST_UNREAD and time.monotonic() < until:
+            self.server.settimeout(max(until - time.monotonic(), 0.001))
+            try:
+                data = self.server.recv(PIECE)
+            except OSError:  # it comes later, or breaks: nothing is said of that
+                return
+            kept.add(data)
+            if not data:
+                self.connection.is_ended = True
+                return
+
+
+def is_coded(answer: bytes) -> bool:
+    head = Answer(answer).head
+    return head is not None and head.get("Content-Encoding") is not None

@@ -144,7 +144,9 @@ class Recorded:
         for connection in self.left:
             if connection.address == address and connection.request.startswith(head.encode("latin-1")):
                 self.left.remove(connection)
-                return answers.Answer(connection.answer, link=connection.link)
+                answer = answers.Answer(connection.answer, link=connection.link)
+                answer.is_ended = connection.is_ended
+                return answer
         return answers.Answer(b"", link="bad-address" if address is not None else "no-route")
 
 

@@ -139,21 +139,24 @@ def shown(url: str) -> str:
 
 
 def outcome(case: Case) -> str:
-    """What it comes to, why, and of one that is refused what to change, as far as no line `in all` says it."""
+    """What it comes to, why, and of one that is refused or cut what to change, as far as no line `in all` says it."""
     came = told_of(case) if case.result.type == "loaded" else f"{word_of(case)}, {told_of(case)}"
     is_missed = case.verdict == "read" and case.though_read != "" if case.explanation else False
-    is_to_change = case.explanation is not None and (case.result.is_refused() or is_missed)
+    is_cut = case.result.ending in ("cut", "fault")
+    is_to_change = case.explanation is not None and (case.result.is_refused() or is_missed or is_cut)
     return "; ".join([came, *changes_of(case)]) if is_to_change else came
 
 
 def changes_of(case: Case) -> list[str]:
-    """What to change, by the first way. Where the lines `in all` say it, that of the request alone; of what this engine
-    does not load, that of each policy that refuses it, or of each that reports it where none does."""
+    """What to change, by the first way, and in headers alone. Where the lines `in all` say it, that of the request
+    alone; of what this engine does not load, that of each policy that refuses it, or of each that reports it where none
+    does."""
+    of_headers = ["or " + one for one in there(case.explanation).of_headers]
     if there(case.explanation).needs:
         of_request = [edit for edit in there(case.explanation).edits if edit["at"] == "request"]
-        return [edits.phrase(of_request)] if of_request else []
+        return [edits.phrase(of_request), *of_headers] if of_request else of_headers
     if not (case.is_unloaded and case.policies_told):
-        return [there(case.explanation).first_change, *by_policy(case)]
+        return [there(case.explanation).first_change, *of_headers, *by_policy(case)]
     refusing = [policy.first_change for policy in case.policies_told if policy.enforced]
     return refusing or list(map(before_enforced, case.policies_told))
 

@@ -19,6 +19,7 @@ if TYPE_CHECKING:
     from fiorrudda.commands.shapes import Edit, Object
 
 
+MOST_NAMED = 12  # hosts in a sentence
 # The header of a policy that is not read yet: its number, its name and its right name.
 Header = namedtuple("Header", "at name right")
 
@@ -38,12 +39,27 @@ class Whole(namedtuple("Whole", "policy enforced text value changes mended besid
         """Whether the policy itself stays as it is."""
         return bool(self.value == self.text and self.header is None)
 
-    def line(self) -> str:
+    def line(self, is_wanted: bool = False) -> str:
+        """`is_wanted` says that a test wants all that passes then."""
         by_phrase: dict[str, list[str]] = {}
         for name, own in self.besides:
             by_phrase.setdefault(edits.phrase(own), []).append(name)
         said = [f"for {edits.listed(names)} {phrase}" for phrase, names in by_phrase.items()]
-        return "in all: " + "; and ".join(([] if self.is_same else [self.sentence()]) + said)
+        first = [] if self.is_same else [self.sentence() + ("" if is_wanted else self.of_new_words())]
+        return "in all: " + "; and ".join(first + said)
+
+    def of_new_words(self) -> str:
+        """That some of what it lets in may be what it is to keep out: the hosts and schemes that it gets."""
+        before = csp.directives(self.mended.text)
+        found: dict[str, None] = {}
+        for name, words in csp.directives(self.value).items():
+            known = before.get(name, before.get("default-src", []))
+            found.update({word: None for word in words if is_source(word) and word not in known})
+        if not found:
+            return ""
+        more = [f"{len(found) - MOST_NAMED} more"] if len(found) > MOST_NAMED else []
+        named = edits.listed([*list(found)[:MOST_NAMED], *more])
+        return f": it lets in {named}; leave out what the page does not mean to load"
 
     def sentence(self) -> str:
         if self.header:
@@ -137,6 +153,11 @@ def merged(there: list[str], values: list[str]) -> str:
     left = [word for word in there if word not in gone]
     standing = {*left, *added}
     return " ".join(left + [word for word in added if without_path(word) not in standing])
+
+
+def is_source(word: str) -> bool:
+    """Whether a word names a host or a scheme."""
+    return bool(csp.HOST.fullmatch(word) or csp.SCHEME.fullmatch(word))
 
 
 def without_path(word: str) -> str | None:

@@ -227,6 +227,9 @@ POLICIES = {
     "a hash of another text": policed(
         f"script-src '{SCRIPT}'", script(integrity=SCRIPT, crossorigin="anonymous"),
         **at(API, rule(200, [STAR], "abd"))),
+    "a script of another host": policed("script-src 'self'", script()),
+    "a style of default-src 'none'": policed("default-src 'none'", load("style")),
+    "a script beside inline ones": policed("script-src 'unsafe-inline'", script()),
     "a script of default-src": policed("default-src 'self' 'nonce-n1'", script()),
     "a path with its slash": policed("connect-src https://api.test/v1/", fetch(API + "/v1")),
     "another path": policed("connect-src https://api.test/v1/", fetch(API + "/v2/x")),

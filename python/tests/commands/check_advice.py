@@ -270,9 +270,25 @@ class Checks(base.Checks):
         form = r"in all: let policy 0 be `default-src 'self'; .*"
         for name, lines in [("above the play", verdicts.heading(told)), ("--brief", verdicts.brief(told))]:
             self.compare(f"a policy with all its changes, {name}: {lines[-1]}", bool(re.fullmatch(form, lines[-1])), True)
+        self.check_let_in()
         told = told_of(advice_cases.WHOLE["three policies"][0])
         several = [one.policy for one in told.whole_policies[0] if one.is_told]
         self.compare("which policies have several changes", several, [0, 2])
+
+    def check_let_in(self):
+        """A policy with all its changes names what it lets in anew: a host of it may be an attacker's."""
+        wanted = "; leave out what the page does not mean to load"
+        rows = [
+            ([cases.load("script", "https://evil.test/a.js"), cases.load("image", "data:,a"),
+              cases.load("script", "/a.js")],
+             "script-src https://cdn.test; img-src 'self'", ": it lets in https://evil.test and data:" + wanted),
+            ([cases.fetch("/x"), cases.load("script", "/a.js")], "default-src 'none'", ""),
+            ([cases.fetch(f"https://h{number}.test/x") for number in range(20)], "connect-src 'self'",
+             f": it lets in {', '.join(f'https://h{number}.test' for number in range(12))} and 8 more{wanted}"),
+        ]
+        for script, policy, end in rows:
+            line = verdicts.policies_in_all(told_of(cases.scenario(script, headers=[[cases.POLICY, policy]])))[0]
+            self.compare(f"what a policy lets in anew: {line}", line.partition("`")[2].partition("`")[2], end)
 
     def test_unmade(self) -> None:
         """Each way has a change, or a reason why none is named."""
@@ -527,6 +543,26 @@ class Checks(base.Checks):
              "https://cdn.test/2 itself, or redirect within one origin\n# in all: then the answer to GET at "
              "https://cdn.test/2 needs `Access-Control-Allow-Origin: https://shop.test`, "
              "`Access-Control-Allow-Credentials: true`\n", "Allow-Origin: null"),
+            ("away, further away", "# in all: the answer to GET at https://cdn.test/2, which is asked with "
+             "`Origin: null`, needs `Access-Control-Allow-Origin: *` in place of `https://shop.test`\n",
+             "Origin: null`, needs `Access-Control-Allow-Origin: https"),
+            ("a PUT that is led away", "# in all: the answer to OPTIONS at https://cdn.test/2, which is asked with "
+             "`Origin: null`, needs a status of 200 to 299, `Access-Control-Allow-Origin: *` in place of "
+             "`https://shop.test`, `Access-Control-Allow-Methods: PUT`\n# in all: the answer to PUT at "
+             "https://cdn.test/2, which is asked with `Origin: null`, needs `Access-Control-Allow-Origin: *`", None),
+            ("away, further away, with credentials", "# in all: the redirect to https://cdn.test/2 leads from one "
+             "foreign origin to another, so the request says `Origin: null`, which no server should allow: let "
+             "the page ask for https://cdn.test/2 itself, or redirect within one origin\n# in all: then the answer to "
+             "GET at https://cdn.test/2 needs `Access-Control-Allow-Origin: https://shop.test`, "
+             "`Access-Control-Allow-Credentials: true`", "Allow-Origin: null"),
+            ("a script of another host", "; or let policy 0 say `script-src 'self' 'nonce-r4nd0m'`, and give the "
+             "element the nonce `r4nd0m`, made anew for each answer\n", "let policy 0 say `script-src 'self'`"),
+            ("a style of default-src 'none'", "# change: let policy 0 say `style-src https://api.test` beside its "
+             "`default-src`; or let policy 0 say `style-src 'nonce-r4nd0m'` beside its `default-src`, and give the "
+             "element the nonce `r4nd0m`, made anew for each answer\n", None),
+            ("a script beside inline ones",
+             "# change: let policy 0 say `script-src 'unsafe-inline' https://api.test`\n", "nonce"),
+            ("default-src alone: font", "`font-src 'self' https://api.test`", "nonce"),
             ("a PUT that a slash leads on", "; or ask for https://api.test/1/, and answer OPTIONS at https://api.test/1/ with "
              "204, `Access-Control-Allow-Origin: https://shop.test`", None),
             ("a PUT that is led to another host", "# change: ask for https://cdn.test/1; or redirect within one origin\n", None),

@@ -501,7 +501,8 @@ class Checks(base.Checks):
         rows: list[tuple[str, dict[str, Any], Optional[str]]] = [
             ("to another origin", dict(page="https://shop.test/"), "--credentials include alone"),
             ("by an element", dict(page="https://shop.test/", load="font"), "--crossorigin use-credentials alone"),
-            ("to another site", dict(page="https://shop.test/", credentials="include"), "SameSite=None"),
+            ("to another site", dict(page="https://shop.test/", credentials="include"),
+             "SameSite=None and Secure, and many users block them, but for those with `Partitioned` too"),
             ("to another scheme", dict(page="http://api.test/", credentials="include"), "SameSite=None"),
             ("to the same site", dict(page="https://www.api.test/", credentials="include"), None),
             ("to the page's own origin", dict(page="https://api.test/"), None),
@@ -514,6 +515,16 @@ class Checks(base.Checks):
              "site"),
             ("with one without credentials", dict(page="https://shop.test/", method="PUT"),
              "--credentials include alone"),
+            ("that is not given, to another site", dict(page="https://shop.test/", credentials="include", cookie=[]),
+             "a browser sends those that it has of https://api.test, which is of another site: Chromium sends them "
+             "only where they were set with SameSite=None and Secure"),
+            ("that is not given, by an element",
+             dict(page="https://shop.test/", load="font", crossorigin="use-credentials", cookie=[]), "SameSite=None"),
+            ("that is not given, to the same site",
+             dict(page="https://www.api.test/", credentials="include", cookie=[]), "so SameSite keeps none back"),
+            ("that is not given, and not asked for", dict(page="https://shop.test/", cookie=[]), None),
+            ("that is not given, to the page's own origin",
+             dict(page="https://api.test/", credentials="include", cookie=[]), None),
         ]
         for name, more, part in rows:
             answered = answered_by(plain, pair, "https://api.test/x", **{"cookie": ["a=1"], **more})
@@ -530,6 +541,31 @@ class Checks(base.Checks):
             in_all = replies.reply_of(answered).in_all
             self.compare(f"{name}: {in_all}", [one.strip().startswith(part) for one in in_all], [False, True])
             self.compare(f"{name}: what was sent", answered.wire.exchanges, [])
+        self.check_led(pair)
+
+    def check_led(self, pair):
+        """What is wanted at the target of a redirect, too, which says `Origin: null` behind a detour (Fetch, section
+        4.4, "HTTP-redirect fetch")."""
+        away, own = b"Location: https://cdn.test/y", b"Access-Control-Allow-Origin: https://shop.test"
+        passing = b"\r\n".join([b"HTTP/1.1 204 No", own, b"Access-Control-Allow-Headers: x-a", b"", b""])
+        led = b"\r\n".join([b"HTTP/1.1 302 Found", own, away, b"Content-Length: 0", b"", b""])
+
+        def at_target(request):
+            return passing.replace(b"x-a", b"x-b") if request.target == "/y" else (
+                passing if request.method == "OPTIONS" else led)
+        asked = ("the answer to OPTIONS at https://cdn.test/y, which is asked with `Origin: null`, needs a status of "
+                 "200 to 299, `Access-Control-Allow-Origin: *` in place of ")
+        rows = [
+            ("a preflight that is led away", lambda request: led, dict(method="PUT"), 2,
+             f"  in all: where PUT is redirected as OPTIONS is, {asked}any other, `Access-Control-Allow-Methods: PUT`, "
+             "where it does not send that yet"),
+            ("a header that is led away", at_target, dict(header=[("X-A", "1")]), 0,
+             f"  in all: {asked}`https://shop.test`, `Access-Control-Allow-Headers: x-b, x-a` in place of `x-b`"),
+        ]
+        for name, answer, more, number, line in rows:
+            answered = answered_by(answer, pair, "https://api.test/x", page="https://shop.test/", **more)
+            in_all = replies.reply_of(answered).in_all
+            self.compare(f"{name}: {in_all}", in_all[number:number + 1], [line])
 
     def check_brief(self, pair: Pair) -> None:
         """--brief says what to change, in the verdict or, of several answers, in a line for each; and counts
@@ -548,6 +584,10 @@ class Checks(base.Checks):
             ("an answer that is cut", BEGUN, {}, ["the page would not read all of it: the body ends before the end that "
                                                   "its head announced: 2 bytes came, and Content-Length says 9; send all "
                                                   "of it, and its right length"]),
+            ("a style without its nonce", bare, dict(load="style", policy=["style-src 'nonce-n1'"]),
+             ["the page would not load it: 4 CspRequest: policy 0 has `style-src 'nonce-n1'`, and the element has no "
+              "nonce; give the element the nonce `n1`, made anew for each answer; or let policy 0 say `style-src "
+              "'nonce-n1' https://api.test`"]),
             ("a coded answer without Vary", coded(b"gzip", packed(TEXT, 31)), dict(compressed=True),
              [read, "  1 warning, told without --brief: coding/vary-missing"]),
             ("one with it", coded(b"gzip", packed(TEXT, 31), b"Vary: Accept-Encoding"), dict(compressed=True), [read]),
@@ -649,6 +689,7 @@ class Checks(base.Checks):
         text = told.stdout.decode()
         self.compare("what no page can set: " + text, (told.returncode, sorted(self.left_out(text))), (0, sorted(names)))
         self.compare("credentials come first: " + text, self.left_out(text)[:1], ["Proxy-Authorization"])
+        self.check_agent(place, url)
         self.compare("a cookie in a header: " + text, "# note: `Cookie` is taken as --cookie\n" in text, True)
         told = ran(url, "--from", "https://app.example/", "--connect-to", place, "--mode", "no-cors",
                    "-H", "Sec-Fetch-Dest: empty", "-H", "X-A: 1", "-H", "Authorization: Bearer a")
@@ -672,6 +713,16 @@ class Checks(base.Checks):
             told = ran(url, "--connect-to", place, *sum((["-H", one] for one in [agent, "origin: " + origin, "dpr: 2", "rtt: 50"]), []))
             self.compare(f"client hints from {origin}: {told.stdout!r}",
                          told.stdout.count(b"# note: the browser may have added `dpr`, `rtt` by itself (client hints)"), count)
+
+    def check_agent(self, place, url):
+        """What browsers make of a script's User-Agent is said once, where a script may set one (Fetch, section 2.2.2:
+        it is no forbidden header)."""
+        says = "; where a script sets one, Firefox sends that and asks another origin for a preflight first, and"
+        agent = ["-H", "User-Agent: Mozilla/5.0"]
+        for words, count in [(agent, 1), (["-A", "mine"], 1), ([*agent, "-A", "mine"], 1), ([], 0),
+                             ([*agent, "--mode", "no-cors"], 0), ([*agent, "-H", "Sec-Fetch-Mode: no-cors"], 0)]:
+            text = ran(url, "--connect-to", place, *words).stdout.decode()
+            self.compare(f"a User-Agent, by {words}: {text}", text.count(says), count)
 
     def check_first_words(self, place: str) -> None:
         for words, part in FIRST_WORDS:
@@ -800,7 +851,7 @@ class Checks(base.Checks):
         self.check_read_over(gzip)
         self.check_odd_codings(gzip)
         self.check_framings(gzip)
-        self.check_asked_codings()
+        self.check_asked_codings(pair)
         self.check_unread(pair, gzip)
         self.check_packed(pair, gzip)
         self.check_undecoded(pair)
@@ -871,7 +922,7 @@ class Checks(base.Checks):
 
     def check_asked_codings(self) -> None:
         """The verdict and a note tell how to ask as a browser does, where the answer may depend on that; --compressed
-        does it."""
+        does it, as far as codings are decoded here, and says which ones a browser names (br and zstd over https)."""
         for line, is_told in [(b"Vary: Accept-Encoding", True), (b"Vary: Origin", False)]:
             told = told_of(coded(b"identity", TEXT, line))[3]
             self.compare(f"{line!r}: {told}", "--compressed asks with `gzip, deflate" in told, is_told)
@@ -887,8 +938,14 @@ class Checks(base.Checks):
                 return coded(b"identity", TEXT)
             told = told_of(answer, **words)[3]
             self.compare(f"what is sent with {words}: {sent}", [b"\r\nAccept-Encoding: %s\r\n" % part in one for one in sent], [True])
-            self.compare(f"what is said of --compressed: {told}", "(--compressed), where the play has "
-                                                                  "identity" in told, words != {})
+            says = f"`Accept-Encoding: {codings.ACCEPTED}` (--compressed), the codings that are decoded here, and"
+            self.compare(f"what is said of --compressed: {told}",
+                         (says in told, "a browser sends this server `gzip, deflate`, and br and zstd over" in told),
+                         (words != {}, words != {}))
+        notes = answered_by(plain, pair, "https://api.test/x", page="https://shop.test/", compressed=True).notes()
+        says = "identity, since the engine decodes none; a browser sends this server `gzip, deflate, br, zstd`"
+        self.compare(f"what is said of --compressed over https: {notes}",
+                     [one.endswith(says) for one in notes].count(True), 1)
 
     def check_undecoded(self, pair: Pair) -> None:
         """Codings that nothing here decodes are named, with what is to be installed."""
