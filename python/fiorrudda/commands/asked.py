@@ -20,7 +20,7 @@ from fiorrudda.commands.urls import is_trustworthy, scheme_of
 
 if TYPE_CHECKING:
     import argparse
-    from collections.abc import Iterator
+    from collections.abc import Iterator, Sequence
     from typing import Any
 
     from fiorrudda.commands.answers import Head
@@ -30,6 +30,7 @@ if TYPE_CHECKING:
 
 LIMIT = 1048576
 KNOWN_FOR = 31536000
+KNOWN_LINE = re.compile(rb"([0-9]+) ([01]) [0-9]+:(.+)")  # of a book's text (crates/book_text)
 PASSED_ON = ("%s: Content-Encoding says `%s`, which Chromium and Firefox do not decode: the page gets the bytes as they "
              "came")
 READ_OVER = ("%s: %s: Chromium and Firefox read it all the same, and other programs may not: send all of it, as it was "
@@ -55,6 +56,14 @@ def book_of(path: str) -> fiorrudda.Book:
         raise Wrong(f"{path}: {error.strerror}") from None
     except fiorrudda.NotABook as fault:
         raise Wrong(f"{path} is no book that --book wrote: {fault.name} at line {fault.line}") from None
+
+
+def hosts_in(book: fiorrudda.Book) -> list[Object]:
+    """The known hosts of a book, as a scenario writes them: they stand in the lines of its text behind their number."""
+    _, counted, *lines = book.export().split(b"\n")
+    found = [there(KNOWN_LINE.fullmatch(line)).groups() for line in lines[:int(counted.rpartition(b" ")[2])]]
+    return [{"host": host.decode(), "subdomains": is_wide == b"1", "until": int(until)}
+            for until, is_wide, host in found]
 
 
 def refuse_others(given: argparse.Namespace) -> None:
@@ -102,15 +111,16 @@ class Question:
         # What is known of earlier calls holds until a time of the clock.
         self.now = int(time.time()) if given.book else 0
         self.book = book_of(given.book) if given.book else fiorrudda.Book()
-        self.hosts = [self.known(*one) for one in given.hsts]
+        for one in given.hsts:
+            self.make_known(*one)
+        self.hosts = hosts_in(self.book)
 
-    def known(self, word: str, with_subdomains: bool) -> Object:
-        """Has a host of --hsts in the book: as a scenario writes it."""
+    def make_known(self, word: str, with_subdomains: bool) -> None:
+        """Has a host of --hsts in the book."""
         host = domain_of(word)
         if host is None:
             raise Wrong(f"--hsts: {word} is no host that can be known: write a domain, no address and no localhost")
         self.book.note(host, f"max-age={KNOWN_FOR}{'; includeSubDomains' if with_subdomains else ''}", self.now)
-        return {"host": host, "subdomains": with_subdomains, "until": KNOWN_FOR}
 
     def cookies(self) -> list[list[str]]:
         return [[self.origin or "", "; ".join(self.said.cookies)]] if self.said.cookies else []
@@ -132,12 +142,12 @@ class Question:
             options["body"] = self.body.decode("utf-8", "replace")
         return {"load" if self.said.load else "fetch": options}
 
-    def scenario(self, **more: Any) -> Object:
-        """`more` are its servers, or its routes."""
+    def scenario(self, hosts: Sequence[Object] = (), **more: Any) -> Object:
+        """`hosts` are those that are known in it, and `more` its servers, or its routes."""
         headers = [["Content-Security-Policy", value] for value in self.given.policy]
         headers += [["Referrer-Policy", self.given.referrer_policy]] if self.given.referrer_policy else []
         document = {"url": self.page, "headers": headers, "script": [self.command()] * (2 if self.given.twice else 1)}
-        known = {"cookies": self.cookies(), "hsts": self.hosts}
+        known = {"now": self.now, "cookies": self.cookies(), "hsts": hosts}
         return {"format": 2, **{key: value for key, value in known.items() if value}, **more, "documents": [document]}
 
     def client(self) -> fiorrudda.Client:
@@ -186,6 +196,7 @@ class Answered:
     def tell(self) -> Answered:
         self.text = self.page.text()
         scenario = Scenario(json_text.read(json.dumps(self.question.scenario(routes=self.routes()))))
+        scenario.data["hsts"] = self.question.hosts  # of a book there may be many
         left = iter(self.wire.exchanges)
         self.told = told.Told(scenario, play_text.read(self.text), lambda request: Came(next(left)), is_net="direct")
         status, sentence = verdicts.verdict(self.told.cases, self.question.said.was_navigation)
@@ -245,8 +256,8 @@ class Answered:
     def of_asked_codings(self) -> str | None:
         """That a browser names other codings, where the answer may depend on that; or None."""
         if self.question.given.compressed:
-            return ASKED_CODED % (codings.ACCEPTED, self.codings_of_browsers())
-        return VARIES % (self.varying[0], codings.ACCEPTED) if self.varying else None
+            return ASKED_CODED % (codings.accepted(), self.codings_of_browsers())
+        return VARIES % (self.varying[0], codings.accepted()) if self.varying else None
 
     def codings_of_browsers(self) -> str:
         """Which codings a browser names to the server that was asked last."""

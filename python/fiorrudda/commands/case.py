@@ -892,7 +892,7 @@ class Case:
     def is_spoilt(self) -> bool:
         """Whether a browser refuses what the engine lets pass: for its lengths, or what an element loads for its
         body."""
-        if not self.is_direct or self.result.is_refused() or self.head is None:
+        if self.result.is_refused() or self.head is None:
             return False
         has_lengths = self.has_body and len(self.lengths) > 1
         return has_lengths or self.result.type == "loaded" and self.unread is not None
@@ -1004,7 +1004,7 @@ class Case:
     def is_packed(self) -> bool:
         """Whether the page gets a body of gzip packed, since no coding is named, and nothing says that it is an
         archive."""
-        if not results.is_met("read", self.result) or self.is_spoilt or not self.is_gzip or not self.has_body:
+        if not results.is_let_in(self.result) or self.is_spoilt or not self.is_gzip or not self.has_body:
             return False
         is_coded = any(word.strip().lower() not in ("", "identity") for word in self.coding.split(","))
         is_file = any(urlsplit(request.target).path.lower().endswith((".gz", ".tgz")) for request, _ in self.chain)
@@ -1014,7 +1014,7 @@ class Case:
     def is_packed_twice(self) -> bool:
         """Whether the page gets a body packed that was decoded once, and no archive."""
         stream = getattr(self.answer, "stream", None)
-        is_read = results.is_met("read", self.result) and stream is not None and stream.is_opened and stream.codings
+        is_read = results.is_let_in(self.result) and stream is not None and stream.is_opened and stream.codings
         return bool(is_read) and self.answer.body()[:2] == GZIP and not self.essence.endswith(ARCHIVES)
 
     @property
@@ -1034,8 +1034,8 @@ class Case:
         """What is to be installed, where that is all that a coding lacks here."""
         from fiorrudda.commands import codings  # which bin/ask alone needs
         is_lacking = "br" in codings.lacking(self.coding)
-        return ", since python3 has no module brotli: install Debian's package python3-brotli, or brotli by pip" \
-            if is_lacking else ""
+        return (", since there is neither node nor python3's module brotli: install Debian's package python3-brotli, or "
+                "brotli by pip") if is_lacking else ""
 
     @property
     def or_install(self) -> str:

@@ -7,15 +7,17 @@ import itertools
 import zlib
 from typing import TYPE_CHECKING
 
-from fiorrudda.commands import answers
+from fiorrudda.commands import answers, node_brotli
 from fiorrudda.commands.needs import TOKEN
 from fiorrudda.commands.there import there
 
 if TYPE_CHECKING:
     from collections.abc import Callable, Iterator
-    from typing import Any
+    from typing import Any, Union
 
     from fiorrudda.commands.answers import Answer, Head
+
+    Decoder = Union["Inflate", "Brotli", node_brotli.NodeBrotli]
 
 try:
     import brotli
@@ -30,11 +32,10 @@ LAST_CHUNK = b"0\r\n\r\n"
 LONGEST_HEAD = 65536  # bytes before the data of gzip
 # The codings that browsers decode: of another one the page gets the bytes as they came.
 BROWSERS = ("gzip", "x-gzip", "deflate", "br", "zstd", "dcb", "dcz")
-ACCEPTED = "gzip, deflate" + ("" if brotli is None else ", br")  # what is decoded here, as a request says it
 # What Chromium and Firefox name in a request over TLS or to their own machine, and in one in plain.
 OVER_TLS, IN_PLAIN = "`gzip, deflate, br, zstd`", "`gzip, deflate`, and br and zstd over https alone"
 NO_BODY = (101, 103, 204, 205, 304)
-ERRORS = (zlib.error,) if brotli is None else (zlib.error, brotli.error)
+ERRORS = (zlib.error, node_brotli.Failed, *([] if brotli is None else [brotli.error]))
 
 
 class Cut(Exception):
@@ -202,11 +203,18 @@ def is_passed_on(value: str | None) -> bool:
     return bool(names_of(value)) and all(TOKEN.fullmatch(word) and word not in BROWSERS for word in words)
 
 
-def decoder(coding: str) -> Inflate | Brotli | None:
+def accepted() -> str:
+    """What is decoded here, as a request says it."""
+    return ", ".join(filter(decoder, ("gzip", "deflate", "br")))
+
+
+def decoder(coding: str) -> Decoder | None:
     """The decoder of a coding; None where there is none here."""
     if coding in ("gzip", "x-gzip", "deflate"):
         return Inflate(coding != "deflate")
-    return Brotli() if coding == "br" and brotli else None
+    if coding != "br":
+        return None
+    return Brotli() if brotli else node_brotli.NodeBrotli() if node_brotli.program() else None
 
 
 # ---- streams of pieces: each ends where the body is whole, and raises Cut or Broken where it is not
@@ -247,7 +255,7 @@ def unchunked(pieces: Iterator[bytes]) -> Iterator[bytes]:
 def decoded(pieces: Iterator[bytes], coding: str, flaws: list[str]) -> Iterator[bytes]:
     """What the decoder of a coding makes of pieces. What comes behind its end is read and left out, as browsers do it;
     an empty body is one in any coding. What browsers read over is added to `flaws`, in words."""
-    own: Inflate | Brotli = decoder(coding)  # type: ignore[assignment]  # what lacks one is not decoded
+    own: Decoder = decoder(coding)  # type: ignore[assignment]  # what lacks one is not decoded
     is_empty = True
     for piece in pieces:
         is_empty = is_empty and not piece

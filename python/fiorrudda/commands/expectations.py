@@ -302,8 +302,14 @@ def as_it_came(case: Case) -> Any:
     """What a test says to want what came. Of a URL that this engine never loads the result alone would hold under
     every policy."""
     if not case.is_unloaded:
-        return case.result.short()
+        return next(iter(result_words(case)), case.result.short())
     return {"result": word_of(case), "violations": short_violations(findings.violations(case))}
+
+
+def result_words(case: Case) -> list[str]:
+    """The word for an answer that does not come whole, as a test has it; none of another."""
+    word = results.how_read(case.result) if results.is_let_in(case.result) else "read"
+    return [] if word == "read" else [word]
 
 
 def word_of(case: Case) -> str:
@@ -529,15 +535,19 @@ def of_case(case: Case, wanted: Any) -> Iterator[tuple[str, str]]:
 
 
 def came_to(case: Case) -> str:
-    """The result; of a URL that this engine never loads with what a browser would make of it."""
+    """The result; of a URL that this engine never loads, and of what does not come whole, with what a browser would
+    make of it."""
     if not case.is_unloaded:
-        return case.result.short()
+        return ", ".join([*result_words(case), case.result.short()])
     why = policy_questions.refused_by(case)
     return f"{word_of(case)}, {case.result.short()}{': ' + why if why else ''}"
 
 
 def is_met(wanted: Any, result: Result) -> bool:
+    """Of an answer that is let in, and does not come whole, neither `read` nor `not read` holds."""
     is_negated, rest = results.negated(wanted)
+    if is_negated and rest == "read":
+        return not results.is_let_in(result)
     return results.is_met(rest, result) is not is_negated
 
 

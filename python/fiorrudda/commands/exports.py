@@ -5,8 +5,9 @@ import json
 import re
 from typing import TYPE_CHECKING
 
-from fiorrudda.commands import answers, files
+from fiorrudda.commands import answers, files, known_hosts
 from fiorrudda.commands.ask_words import Wrong
+from fiorrudda.commands.urls import host_of
 
 if TYPE_CHECKING:
     from collections.abc import Iterable
@@ -19,6 +20,7 @@ if TYPE_CHECKING:
 
 # A header of the document, which says nothing to a play: the mark of a file that may be written over.
 MARK = ["X-Made-By", "bin/ask --export"]
+LAST = 281474976710655  # of the seconds that a scenario knows
 SET_COOKIE = re.compile(r"(?im)^(set-cookie2?:[ \t]*)([^\r\n]*)")
 SCHEME_WORD = re.compile(r"^[!#$%&'*+\-.^_`|~0-9A-Za-z]+ +")
 
@@ -46,16 +48,22 @@ class Export:
         if body is not None and body.decode("utf-8", "replace").encode() != body:
             self.lacks.append("the body is no UTF-8, and a scenario has texts: it is another there")
         if question.given.book:
-            self.lacks.append("the scenario begins with the known hosts of --hsts alone and an empty preflight cache, "
-                              "at time 0")
+            self.lacks.append("the scenario begins with an empty preflight cache")
         requests = [request for case in cases for request, _ in case.exchanges]
-        self.scenario = question.scenario(servers=self.servers(zip(requests, exchanges)))
+        self.scenario = question.scenario(self.hosts(cases), servers=self.servers(zip(requests, exchanges)))
         self.scenario["documents"][0]["headers"].append(MARK)
         if not question.given.with_secrets:
             self.hide_words()
         if self.hidden:
             self.lacks.append(f"the values of {', '.join(dict.fromkeys(self.hidden))} are x, as long as they were; "
                               "--with-secrets keeps them")
+
+    def hosts(self, cases: Iterable[Case]) -> list[Object]:
+        """The known hosts of the sites that were asked for: a book may tell of others."""
+        asked = {host_of(hop.asked) for case in cases for hop in case.hops}
+        names = {name for host in asked for name in [host, *known_hosts.names_above(host)]}
+        return [{**one, "until": min(one["until"], LAST)} for one in self.question.hosts
+                if known_hosts.site_of(one["host"]) in names]
 
     def servers(self, exchanges: Iterable[tuple[Send, Exchange]]) -> list[Object]:
         rules: dict[str, list[Object]] = {}

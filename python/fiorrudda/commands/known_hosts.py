@@ -46,8 +46,8 @@ def names_above(host: str) -> list[str]:
 
 
 def clock(case: Case) -> int:
-    """The time of a fetch, in seconds. What bin/ask is told to know it knows from 0 on."""
-    start = 0 if case.is_direct else int(time.time()) if case.is_net else case.scenario.data.get("now", 0)
+    """The time of a fetch, in seconds."""
+    start = int(time.time()) if case.is_net and not case.is_direct else case.scenario.data.get("now", 0)
     return int(start + case.command.waited)
 
 

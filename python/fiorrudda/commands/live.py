@@ -98,7 +98,7 @@ class Wire:
         if not self.is_compressed:
             return request
         head, gap, body = request.partition(b"\r\n\r\n")
-        return head.replace(IDENTITY, b"\r\nAccept-Encoding: " + codings.ACCEPTED.encode(), 1) + gap + body
+        return head.replace(IDENTITY, b"\r\nAccept-Encoding: " + codings.accepted().encode(), 1) + gap + body
 
     def connect(self, origin: str) -> None:
         self.socket = self.reached(*self.place(origin))

@@ -7,7 +7,7 @@ from typing import TYPE_CHECKING
 from fiorrudda.commands import guards
 from fiorrudda.commands.known_hosts import KNOWN_ITSELF
 from fiorrudda.commands.play_text import header_of, is_preflight
-from fiorrudda.commands.urls import host_of, is_trustworthy, secure
+from fiorrudda.commands.urls import host_of, is_local, is_trustworthy, secure
 
 if TYPE_CHECKING:
     from collections.abc import Iterable, Iterator
@@ -31,6 +31,9 @@ NONE_GIVEN = ("it was asked with credentials and without a cookie, since no word
               "those that it has of {origin}, which is ")
 NONE_GIVEN_TO_SITE = NONE_GIVEN + "of the page's own site, so SameSite keeps none back"
 NONE_GIVEN_TO_OTHER = NONE_GIVEN + "of another site: " + SAME_SITE
+
+LOCAL = ("{host} is this machine or of a local network: where the page comes from the internet, Chromium first asks "
+         "the user for a permission (local network access), which is not played here")
 
 PASSED_FIRST = "once the preflight passes, "
 
@@ -80,6 +83,16 @@ def of_sites(cases: Iterable[Case]) -> list[tuple[Case, str]]:
             return [(case, OTHER_SITE.format(origin=origin))]
         if is_before_cookies(case) and case.is_of_other_site(case.request.origin):
             return [(case, PASSED_FIRST + OTHER_SITE.format(origin=case.request.origin))]
+    return []
+
+
+def of_local_networks(cases: Iterable[Case]) -> list[tuple[Case, str]]:
+    """The first case that asks a local network for a page that is not there, and what is to be said of that; nothing
+    where none does."""
+    for case in cases:
+        for host in [host_of(request.origin) for request, _ in case.exchanges]:
+            if is_local(host) and not is_local(host_of(case.page_origin)):
+                return [(case, LOCAL.format(host=host))]
     return []
 
 

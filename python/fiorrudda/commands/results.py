@@ -12,7 +12,8 @@ if TYPE_CHECKING:
 NETWORK_ERRORS = list(names.NETWORK_ERRORS)  # by their numbers, from 1
 FAULTS = list(names.REQUEST_FAULTS)
 TYPES = names.RESPONSE_TYPES + ["loaded", "failed", "type-error"]
-WORDS = ["read", "refused", "no-verdict"] + TYPES + NETWORK_ERRORS + FAULTS
+ALONE = ("read", "cut", "two-lengths", "refused", "no-verdict")  # what a test says in one word
+WORDS = [*ALONE] + TYPES + NETWORK_ERRORS + FAULTS
 
 
 def negated(wanted: str) -> tuple[bool, str]:
@@ -24,8 +25,8 @@ def negated(wanted: str) -> tuple[bool, str]:
 
 def is_met(wanted: str, result: Result) -> bool:
     """Whether a result is what a test wants of it."""
-    if wanted == "read":
-        return result.type in ("basic", "cors", "loaded")
+    if wanted in ("read", "cut", "two-lengths"):
+        return is_let_in(result) and wanted == how_read(result)
     if wanted == "refused":
         return result.is_refused() and not has_no_verdict(result)
     if wanted == "no-verdict":
@@ -35,6 +36,19 @@ def is_met(wanted: str, result: Result) -> bool:
         got = ["failed"] + got
     words = wanted.split()
     return any(got[start:start + len(words)] == words for start in range(len(got) - len(words) + 1))
+
+
+def is_let_in(result: Result) -> bool:
+    """Whether nothing keeps the answer from the page, be it whole or not."""
+    return result.type in ("basic", "cors", "loaded")
+
+
+def how_read(result: Result) -> str:
+    """How a page reads an answer that is let in, in a browser: one whose lengths differ is a network error there, and
+    so is a body that is cut where it ends. One that is longer than is read here is read."""
+    if getattr(result, "verdict", None) == "refused":  # for nothing else, where it is let in
+        return "two-lengths"
+    return "cut" if result.ending in ("cut", "fault") else "read"
 
 
 def has_no_verdict(result: Result) -> bool:

@@ -13,7 +13,7 @@ from fiorrudda.commands.case import Case
 from fiorrudda.commands.json_text import Node
 from fiorrudda.commands.lints.hsts import Meant
 from fiorrudda.commands.lints.policies import Directive, Policy, Word
-from fiorrudda.commands.lints.reading import Field, Options
+from fiorrudda.commands.lints.reading import Field, Options, Status
 from fiorrudda.commands.play_text import Send
 
 Given = Union[argparse.Namespace, types.SimpleNamespace]  # the words of bin/why
@@ -30,7 +30,7 @@ Cases = dict[tuple[int, str], Case]  # by the numbers of documents, and the name
 Passing = tuple[int, Case, bool, bool]  # what policies are to let pass: enforced ones, and those that only report
 Lacking = dict[Any, Any]
 Places = dict[tuple[str, int], tuple[str, int]]  # hosts and ports, and where to connect in their place
-Thing = Union[Field, Policy, Directive, Word, Options]  # that lints look at
+Thing = Union[Field, Policy, Directive, Word, Options, Status]  # that lints look at
 Found = Union[Meant, str, bool, re.Match[str], None]  # what a lint finds
 Wanted = list[tuple[str, Optional[str]]]  # headers that CORS wants
 

@@ -25,10 +25,10 @@ MEANT = {
     **dict.fromkeys(("cors error", "corserror", "blocked by cors"), '"refused", or of the answer "12 CorsCheck"'),
     **dict.fromkeys(("csp", "csp error", "blocked by csp"), '"4 CspRequest"'),
     **dict.fromkeys(("type error", "typeerror"), '"refused": "type-error" is a request that no script may make'),
+    **dict.fromkeys(("incomplete", "truncated"), '"cut"'),
     "mixed content": '"3 Mixed"', "no verdict": '"no-verdict"', "preflight": '"7 PreflightCors"',
 }
-ALONE = ("read", "refused", "no-verdict")
-NOT_OF = {"fetch": ("loaded", "failed"), "load": ("basic", "cors", "opaque", "opaqueredirect", "error")}
+NOT_OF = {"fetch": ("loaded", "failed"), "load": ("basic", "cors", "cut", "opaque", "opaqueredirect", "error")}
 
 
 def key_meant(key: str, others: Iterable[str]) -> str | None:
@@ -55,8 +55,8 @@ def result_problem(wanted: str, kind: str, ways: Container[str]) -> str | None:
         return 'this text is empty: write "read", "refused", or a result as it is printed'
     if word is not None:
         return 'no result has the word "%s": write %s' % (word, meant(rest, word, ways))
-    if len(words) > 1 and set(words) & set(ALONE):
-        other = " ".join(one for one in words if one not in ALONE) or words[0]
+    if len(words) > 1 and set(words) & set(results.ALONE):
+        other = " ".join(one for one in words if one not in results.ALONE) or words[0]
         return '"%s" says two things at once: write %s%s"' % (rest, before, other)
     if words[0] in NOT_OF[kind]:
         other = "refused" if words[0] in ("failed", "error") else "read"

@@ -8,7 +8,7 @@ from typing import TYPE_CHECKING
 from fiorrudda.commands import answers, known_hosts
 from fiorrudda.commands.case import Case
 from fiorrudda.commands.explanations import explain, explain_policies
-from fiorrudda.commands.notes import notes, of_sites
+from fiorrudda.commands.notes import notes, of_local_networks, of_sites
 
 if TYPE_CHECKING:
     from collections.abc import Callable, Iterator
@@ -42,6 +42,8 @@ class Told:
         if is_net != "direct":  # bin/ask says it of its own cookies
             for case, note in of_sites(self.cases):
                 case.notes.append(note)
+        for case, note in of_local_networks(self.cases):
+            case.notes.append(note)
 
     def pieces(self) -> Iterator[tuple[str, list[str]]]:
         """The lines in order: those of the play, and lists of our own."""

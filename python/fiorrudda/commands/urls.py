@@ -10,6 +10,9 @@ from urllib.parse import parse_qsl, urljoin, urlsplit
 if TYPE_CHECKING:
     from urllib.parse import SplitResult
 
+# Local Network Access, section 2: of this machine, and of its network.
+LOCAL_NETWORKS = ("127.0.0.0/8", "::1/128", "10.0.0.0/8", "172.16.0.0/12", "192.168.0.0/16", "169.254.0.0/16",
+                  "100.64.0.0/10", "fc00::/7", "fe80::/10")
 # Words of a host or a path that a login has.
 LOGIN = re.compile(r"(?<![a-z])(?:log-?[io]n|sign-?in|auth(?:orize|enticate)?|sso|oauth|accounts?|sessions?)(?![a-z])")
 # A URL whose authority is a host in lower case alone, as most are.
@@ -45,6 +48,14 @@ def is_trustworthy(url: str) -> bool:
     host = host_of(url).rstrip(".")
     loopback = is_address(host) and ipaddress.ip_address(host).is_loopback
     return scheme_of(url) in ("https", "wss") or loopback or host == "localhost" or host.endswith(".localhost")
+
+
+@functools.lru_cache(1024)
+def is_local(host: str) -> bool:
+    """Whether a host is this machine, or of a local network, as far as its name tells."""
+    if not is_address(host):
+        return host.rstrip(".").rpartition(".")[2] in ("localhost", "local")
+    return any(ipaddress.ip_address(host) in network for network in map(ipaddress.ip_network, LOCAL_NETWORKS))
 
 
 def is_same_site(origin: str, other: str) -> bool:

@@ -263,7 +263,7 @@ def verdict(cases: list[Case], was_navigation: bool = False) -> tuple[int, str]:
         return UNDECIDED, NO_VERDICT + condition_of(case)
     if case.is_spoilt or not result.is_refused() and (case.cut_coding or result.ending == "cut"):
         return NOT_READ, f"the page would not {does_not(case, does)}: {condition_of(case)}"
-    if results.is_met("read", result) and result.ending != "cut":
+    if results.is_met("read", result):
         return READ, f"the page would {does}: {seen(case)}"
     return NOT_READ, f"the page would not {does}: {told_of(case)}"
 

@@ -275,7 +275,7 @@ class Checks(base.Checks):
         several = [one.policy for one in told.whole_policies[0] if one.is_told]
         self.compare("which policies have several changes", several, [0, 2])
 
-    def check_let_in(self):
+    def check_let_in(self) -> None:
         """A policy with all its changes names what it lets in anew: a host of it may be an attacker's."""
         wanted = "; leave out what the page does not mean to load"
         rows = [
@@ -702,6 +702,22 @@ class Checks(base.Checks):
             is_sent = name.lower() in asked or value in [own for request, _ in case.chain for own in values_of(request, name)]
             self.compare(f"{name}: {value} in mode {mode} is kept", bool(kept), is_sent)
             self.compare(f"{name}: {value} asks for a preflight", guards.unsafe_names(kept), [asked] if asked else [])
+
+    def test_local_networks(self) -> None:
+        """A public page's first request to this machine or a local network is told (Local Network Access, section 2)."""
+        rows = [
+            ("https://shop.test/", "http://127.0.0.1:8000/x", "127.0.0.1"), ("https://shop.test/", "http://localhost/x", "localhost"),
+            ("http://shop.test/", "http://192.168.0.1/x", "192.168.0.1"), ("http://203.0.113.5/", "http://10.0.0.1/x", "10.0.0.1"),
+            ("http://shop.test/", "http://[fd00::1]/x", "fd00::1"), ("https://shop.test/", "https://printer.local/x", "printer.local"),
+            ("http://shop.test/", "http://172.32.0.1/x", None), ("http://shop.test/", "http://203.0.113.5/x", None),
+            ("http://10.0.0.2/", "http://192.168.0.1/x", None), ("http://localhost/", "http://127.0.0.1/x", None),
+            ("https://shop.test/", "http://192.168.0.1/x", None),  # which is mixed content, and not sent
+        ]
+        for page, url, host in rows:
+            told = told_of(cases.scenario([cases.fetch(url)] * 10, page=page))
+            notes = [note for case in told.cases for note in case.notes if "local network access" in note]
+            says = [f"{host} is this machine or of a local network: " in note for note in notes]
+            self.compare(f"{page} asks {url}: {notes}", says, [True] if host else [])
 
     def test_many_notes(self) -> None:
         """Headers that are dropped stand in one note, by their reasons, and credentials come first."""

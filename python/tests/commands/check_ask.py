@@ -15,6 +15,7 @@ from __future__ import annotations
 
 import argparse
 import base64
+import contextlib
 import hashlib
 import itertools
 import json
@@ -27,12 +28,13 @@ import sys
 import tempfile
 import time
 import zlib
-from typing import Any, Callable, Optional, Union
+from typing import Any, Callable, Iterator, Optional, Union
 from unittest import mock
 
 import _ctypes
 
-from fiorrudda.commands import answers, ask_words, asked, codings, json_text, live, replies, running, told as telling
+from fiorrudda.commands import (answers, ask_words, asked, codings, json_text, live, node_brotli, replies, running,
+                                told as telling)
 from fiorrudda.commands.scenario import Scenario
 from fiorrudda.commands.shapes import Places
 from fiorrudda.places import ROOT
@@ -205,7 +207,6 @@ def allowed(request: loopback.Request) -> bytes:
 
 # ---- bodies that come coded
 
-BROTLI = getattr(codings, "brotli")  # the module, or None where it is not there
 TEXT = b'{"rows": [%s]}' % b", ".join(b"%d" % number for number in range(400))
 
 
@@ -240,12 +241,24 @@ def whole_bodies() -> dict[str, bytes]:
         "deflate without its head": coded(b"deflate", packed(TEXT, -15)),
         "deflate and then gzip": coded(b"deflate, gzip", packed(packed(TEXT, 15), 31)),
     }
-    if BROTLI:
-        rows["br"] = coded(b"br", BROTLI.compress(TEXT))
+    if codings.decoder("br"):
+        rows["br"] = coded(b"br", stored(TEXT))
     else:
-        print("commands/check_ask: left out, since there is no module brotli (python3-brotli): a body that comes as br",
+        print("commands/check_ask: left out, since there is neither node nor python3-brotli: a body that comes as br",
               file=sys.stderr)
     return rows
+
+
+def stored(data: bytes) -> bytes:
+    """A br stream (RFC 7932, section 9.2): a window of 16 bits, a meta-block that is not compressed, and the last, empty
+    one."""
+    return (len(data) - 1 << 4 | 1 << 20).to_bytes(3, "little") + data + b"\x03"
+
+
+@contextlib.contextmanager
+def without_br() -> Iterator[None]:
+    with mock.patch.object(codings, "brotli", None), mock.patch.object(node_brotli, "program", lambda: None):
+        yield
 
 
 def always(said: Said) -> Answering:
@@ -412,6 +425,12 @@ class Checks(base.Checks):
     def test_known_hosts(self) -> None:
         self.check_known_hosts(self.pair)
 
+    def test_books(self) -> None:
+        self.check_books(self.pair, self.folder)
+
+    def test_local_networks(self) -> None:
+        self.check_local_networks()
+
     def test_several_urls(self) -> None:
         self.check_many(self.pair, self.folder)
 
@@ -543,14 +562,14 @@ class Checks(base.Checks):
             self.compare(f"{name}: what was sent", answered.wire.exchanges, [])
         self.check_led(pair)
 
-    def check_led(self, pair):
+    def check_led(self, pair: Pair) -> None:
         """What is wanted at the target of a redirect, too, which says `Origin: null` behind a detour (Fetch, section
         4.4, "HTTP-redirect fetch")."""
         away, own = b"Location: https://cdn.test/y", b"Access-Control-Allow-Origin: https://shop.test"
         passing = b"\r\n".join([b"HTTP/1.1 204 No", own, b"Access-Control-Allow-Headers: x-a", b"", b""])
         led = b"\r\n".join([b"HTTP/1.1 302 Found", own, away, b"Content-Length: 0", b"", b""])
 
-        def at_target(request):
+        def at_target(request: loopback.Request) -> Said:
             return passing.replace(b"x-a", b"x-b") if request.target == "/y" else (
                 passing if request.method == "OPTIONS" else led)
         asked = ("the answer to OPTIONS at https://cdn.test/y, which is asked with `Origin: null`, needs a status of "
@@ -714,13 +733,15 @@ class Checks(base.Checks):
             self.compare(f"client hints from {origin}: {told.stdout!r}",
                          told.stdout.count(b"# note: the browser may have added `dpr`, `rtt` by itself (client hints)"), count)
 
-    def check_agent(self, place, url):
+    def check_agent(self, place: str, url: str) -> None:
         """What browsers make of a script's User-Agent is said once, where a script may set one (Fetch, section 2.2.2:
         it is no forbidden header)."""
         says = "; where a script sets one, Firefox sends that and asks another origin for a preflight first, and"
         agent = ["-H", "User-Agent: Mozilla/5.0"]
-        for words, count in [(agent, 1), (["-A", "mine"], 1), ([*agent, "-A", "mine"], 1), ([], 0),
-                             ([*agent, "--mode", "no-cors"], 0), ([*agent, "-H", "Sec-Fetch-Mode: no-cors"], 0)]:
+        rows: list[tuple[list[str], int]] = [
+            (agent, 1), (["-A", "mine"], 1), ([*agent, "-A", "mine"], 1), ([], 0),
+            ([*agent, "--mode", "no-cors"], 0), ([*agent, "-H", "Sec-Fetch-Mode: no-cors"], 0)]
+        for words, count in rows:
             text = ran(url, "--connect-to", place, *words).stdout.decode()
             self.compare(f"a User-Agent, by {words}: {text}", text.count(says), count)
 
@@ -852,6 +873,8 @@ class Checks(base.Checks):
         self.check_odd_codings(gzip)
         self.check_framings(gzip)
         self.check_asked_codings(pair)
+        if node_brotli.program():
+            self.check_node()
         self.check_unread(pair, gzip)
         self.check_packed(pair, gzip)
         self.check_undecoded(pair)
@@ -886,12 +909,12 @@ class Checks(base.Checks):
             (b"gzip, gzip", gzip, 1, "change: let Content-Encoding say `gzip` alone: look for a program and a proxy"),
             (b"gzip", packed(gzip, 31), 0, "the body is still gzip once it is decoded: the page gets it packed; compress it"),
             (b"gzip, gzip", packed(gzip, 31), 0, "the body came as gzip, gzip all the same"),
-            (b"br", b"?", 4 if BROTLI is None else 1, "br"),
+            (b"br", b"?", 4 if codings.decoder("br") is None else 1, "br"),
         ]
         for coding, body, wanted, part in rows:
             status, _, _, told = told_of(coded(coding, body))
             self.compare(f"Content-Encoding {coding!r}: {told}", (status, part in told), (wanted, True))
-        with mock.patch.object(codings, "brotli", None):
+        with without_br():
             status, _, _, told = told_of(coded(b"br", b"?"))
         parts = ["install Debian's package python3-brotli, or brotli by pip; a browser", "; known without it: the status 200, and "
                  "that CORS, policies and types let it", "change: install python3-brotli and ask again; or for a verdict"]
@@ -920,7 +943,7 @@ class Checks(base.Checks):
         self.compare(f"two lengths, and no CORS: {answered.verdict[1]}",
                      (answered.status(), answered.verdict[1].startswith(says)), (1, True))
 
-    def check_asked_codings(self) -> None:
+    def check_asked_codings(self, pair: Pair) -> None:
         """The verdict and a note tell how to ask as a browser does, where the answer may depend on that; --compressed
         does it, as far as codings are decoded here, and says which ones a browser names (br and zstd over https)."""
         for line, is_told in [(b"Vary: Accept-Encoding", True), (b"Vary: Origin", False)]:
@@ -931,14 +954,14 @@ class Checks(base.Checks):
             says = "; it was asked for without a coding: --compressed asks as a browser does"
             self.compare(f"{line!r}: {answered.verdict}", (answered.status(), answered.verdict[1].endswith(says)),
                          (0, is_told))
-        for words, part in [({}, b"identity"), (dict(compressed=True), codings.ACCEPTED.encode())]:
+        for words, part in [({}, b"identity"), (dict(compressed=True), codings.accepted().encode())]:
             sent = []
             def answer(request: loopback.Request) -> Said:
                 sent.append(request.data)
                 return coded(b"identity", TEXT)
             told = told_of(answer, **words)[3]
             self.compare(f"what is sent with {words}: {sent}", [b"\r\nAccept-Encoding: %s\r\n" % part in one for one in sent], [True])
-            says = f"`Accept-Encoding: {codings.ACCEPTED}` (--compressed), the codings that are decoded here, and"
+            says = f"`Accept-Encoding: {codings.accepted()}` (--compressed), the codings that are decoded here, and"
             self.compare(f"what is said of --compressed: {told}",
                          (says in told, "a browser sends this server `gzip, deflate`, and br and zstd over" in told),
                          (words != {}, words != {}))
@@ -947,11 +970,27 @@ class Checks(base.Checks):
         self.compare(f"what is said of --compressed over https: {notes}",
                      [one.endswith(says) for one in notes].count(True), 1)
 
+    def check_node(self) -> None:
+        """Where python3 has no module brotli, node decodes br as that does, and no more of it than is read."""
+        zeros = 'process.stdout.write(require("zlib").brotliCompressSync(Buffer.alloc(1 << 26)))'
+        bomb = subprocess.run([node_brotli.program() or "node", "-e", zeros], stdout=subprocess.PIPE, check=True).stdout
+        whole = stored(TEXT)
+        rows = [
+            ("whole", whole, "cors 200", TEXT, 0), ("with bytes behind its end", whole + b"more", "cors 200", TEXT, 0),
+            ("cut", whole[:-9], "body/coding-cut", None, 1), ("none", b"plain text, none of it", "body/not-its-coding", None, 1),
+            ("empty", b"", "cors 200", b"", 0), ("64 MB of zeros", bomb, "seen/body-toobig", None, 0),
+        ]
+        with mock.patch.object(codings, "brotli", None):
+            for name, body, way, read, status in rows:
+                for framing, sent in [(None, body), ([b"Transfer-Encoding: chunked"], in_chunks(body))]:
+                    told = told_of(coded(b"br", sent, framing=framing))
+                    self.compare(f"br by node, {name}: {told[3]}", told[:3], (status, read, way))
+
     def check_undecoded(self, pair: Pair) -> None:
         """Codings that nothing here decodes are named, with what is to be installed."""
-        with mock.patch.object(codings, "brotli", None):
-            for coding, part in [(b"br", "br is not decoded here, since python3 has no module brotli: install Debian's package "
-                                         "python3-brotli"), (b"zstd", ": zstd is not decoded here; a browser"),
+        with without_br():
+            for coding, part in [(b"br", "br is not decoded here, since there is neither node nor python3's module brotli: "
+                                         "install Debian's package python3-brotli"), (b"zstd", ": zstd is not decoded here; a browser"),
                                  (b"gzip, gzip, gzip, gzip, gzip", "gzip is not decoded here; ")]:
                 answered = answered_by(lambda request: coded(coding, b"?"), pair, "https://api.test/x", page="https://shop.test/")
                 self.compare(f"a coding that nothing here decodes: {coding!r}: {answered.verdict}",
@@ -1216,6 +1255,42 @@ class Checks(base.Checks):
             reply = replies.replied(given("http://api.test/x", hsts=[(host, False)]), "http://api.test/x")
             self.compare(f"--hsts {host}: {reply.verdict}", (reply.status, "--hsts" in reply.verdict), (2, True))
         self.compare("--hsts with another word", ran("http://api.test/", "--hsts", "a.test,all").returncode, 2)
+
+    def check_books(self, pair: Pair, folder: str) -> None:
+        """Of the hosts that a book knows each upgrade is told its own, and a URL that stays http why (RFC 6797, section 8.2: a
+        host, or one above it with includeSubDomains). What is exported has those of its sites alone, and plays the same."""
+        name, exported = os.path.join(folder, "known.book"), os.path.join(folder, "known.json")
+        far, own = 9999999999, "is a known host (HSTS)"
+        rows = [
+            ([("shop.test", 1, far)], "img.shop.test", f"shop.test {own} with its subdomains, which covers img.shop.test", True),
+            ([("img.shop.test", 0, far), ("shop.test", 1, far)], "img.shop.test", "its host is a known one (HSTS)", True),
+            ([("shop.test", 0, far)], "img.shop.test", f"shop.test {own}, but without includeSubDomains, which would cover", False),
+            ([("img.shop.test", 1, far)], "shop.test", f"img.shop.test {own}, and shop.test is neither that nor below it", False),
+            ([("shop.test", 1, 9)], "shop.test", "shop.test was a known host (HSTS) until second 9, and it is second 1", False),
+            ([("h.test", 1, far)], "shop.test", "", False),
+        ]
+        for hosts, host, part, is_upgraded in rows:
+            with open(name, "w", encoding="utf-8") as file:
+                lines = [f"{until} {is_wide} {len(known)}:{known}\n" for known, is_wide, until in [*hosts, ("zz.other", 1, far)]]
+                file.write("".join(["fiorrudda book 1\n", f"hosts {len(lines)}\n", *lines, "entries 0\n"]))
+            with loopback.Servers(plain, pair) as servers:
+                url = f"http://{host}/x"
+                words = given(url, page="http://cdn.test/", connect_to=places(servers), book=name, export=exported)
+                one = asked.answered(words, url)
+                data, case = one.export.data(), one.told.cases[0]
+            self.compare(f"--book {hosts}, {host}: {case.notes}", [part in note for note in case.notes], [True] * bool(part))
+            self.compare(f"--book {hosts}, {host}: asked", case.chain[0][0].origin, f"http{'s' * is_upgraded}://{host}")
+            self.compare(f"--book {hosts}: another site is exported", b"zz.other" in data, False)
+            told = running.played(data)
+            self.compare(f"--book {hosts}: its export plays {told}", f"\nsend http{'s' * is_upgraded}://{host}\n" in told, True)
+
+    def check_local_networks(self) -> None:
+        """A page of the internet that asks this machine is told what Chromium does then, once; one of this machine is not."""
+        for page, count in [("http://shop.test/", 1), ("http://localhost/", 0)]:
+            with loopback.Servers(plain) as servers:
+                answered = asked_of(f"http://127.0.0.1:{servers.port}/x", page=page, twice=True)
+            lines = [line for _, own in answered.pieces() for line in own if "local network access" in line]
+            self.compare(f"a page of {page} asks this machine: {lines}", len(lines), count)
 
     def check_export(self, pair: Pair, folder: str) -> None:
         """A file for its owner alone, without secrets, and in the place of none that --export did not write."""

@@ -379,6 +379,10 @@ class Checks(base.Checks):
         with net_peers.Peer(head % (b"https://shop.test", b"vary: Accept, Origin\r\n")) as peer:
             told = ran("why", "--net", input=json.dumps(peer.scenario()).encode()).stdout.decode()
             self.compare("with Vary", "# warning" in told, False)
+        with net_peers.Peer(b"HTTP/1.1 304 Not Modified\r\nAccess-Control-Allow-Origin: *\r\n\r\n") as peer:
+            told = ran("why", "--net", input=json.dumps(peer.scenario()).encode()).stdout.decode()
+            part = "# warning: https://api.test/x: status: 304 answers a request with If-None-Match or If-Modified-Since"
+            self.compare("a 304 that was not asked for: " + told, part in told, True)
         rows: list[tuple[list[str], int]] = [([], 0), (["--strict"], 1)]
         for words, status in rows:
             wrong = b"Access-Control-Allow-Orgin: *\r\nVary: Origin\r\n"

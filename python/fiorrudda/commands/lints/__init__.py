@@ -11,7 +11,7 @@ from typing import TYPE_CHECKING, NamedTuple
 
 from fiorrudda.commands import answers
 from fiorrudda.commands.lints.entry import ANSWER, COMMAND, DOCUMENT, Finding
-from fiorrudda.commands.lints.reading import TOPICS, Ask, Budget, Headers, Options
+from fiorrudda.commands.lints.reading import TOPICS, Ask, Budget, Headers, Options, Status
 from fiorrudda.commands.play_text import is_preflight
 
 if TYPE_CHECKING:
@@ -98,7 +98,7 @@ class Place:
         if root is None:
             return None
         node = root.at(self.path)
-        if node.kind == "string":
+        if node.kind in ("string", "number"):
             return node.start
         if node.kind == "object":
             return (node.member("integrity") or node).start
@@ -207,17 +207,20 @@ def answer_places(scenario: Scenario, asks: list[Ask], budget: Budget) -> Iterat
     for number, server in enumerate(scenario.servers()):
         rules = Rules(server["rules"], by_origin.pop(server["origin"], []))
         for index, rule in enumerate(server["rules"]):
-            pairs = rule.get("headers") or raw_headers(rule)
+            status, pairs = status_and_headers(rule)
+            headers = Headers(ANSWER, pairs, server["origin"] + rule.get("path", "/"), rules.asks.get(index, []),
+                              rules.preflights.get(index, []))
+            path = ["servers", number, "rules", index]
+            yield Place([*path, "raw" if "raw" in rule else "status"], [Status(status, headers.asks)], headers.url)
             if pairs:
-                headers = Headers(ANSWER, pairs, server["origin"] + rule.get("path", "/"), rules.asks.get(index, []),
-                                  rules.preflights.get(index, []))
-                path = ["servers", number, "rules", index, "headers" if rule.get("headers") else "raw"]
-                yield Place(path, headers.things(budget), headers.url)
+                yield Place([*path, "raw" if "raw" in rule else "headers"], headers.things(budget), headers.url)
 
 
-def raw_headers(rule: Object) -> Headed:
-    head = answers.parsed(answers.data_of(rule))[1] if "raw" in rule else None
-    return head.headers if head else []
+def status_and_headers(rule: Object) -> tuple[int, Headed]:
+    if "raw" not in rule:
+        return rule["status"], rule.get("headers", [])
+    head = answers.parsed(answers.data_of(rule))[1]
+    return (head.status, head.headers) if head else (0, [])
 
 
 # ---- what real servers answered
@@ -241,7 +244,8 @@ def of_answers(told_play: Told) -> list[Warned]:
     for case in told_play.cases:
         for request, answer in case.exchanges:
             if answer is not None and answer.head is not None and len(found) < MOST_FOUND:
-                for finding in found_in(headers_of(case, request, answer.head).things(budget)):
+                headers = headers_of(case, request, answer.head)
+                for finding in found_in([Status(answer.head.status, headers.asks), *headers.things(budget)]):
                     one = Warned(request.origin + request.target, finding.header, finding.sentence, finding.lint.name,
                                  finding.slip)
                     found[one] = None

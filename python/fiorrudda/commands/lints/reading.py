@@ -8,7 +8,7 @@ import re
 from typing import TYPE_CHECKING
 from urllib.parse import urlsplit
 
-from fiorrudda.commands.lints.entry import COMMAND
+from fiorrudda.commands.lints.entry import ANSWER, COMMAND
 from fiorrudda.commands.scenario import joined, origin_of
 from fiorrudda.names import CORS_LOADS
 
@@ -20,12 +20,14 @@ if TYPE_CHECKING:
 
 POLICY = "content-security-policy"
 REPORT_ONLY = "content-security-policy-report-only"
+NOT_MODIFIED = 304
 MOST_ASKS = 100
 MOST_TEXT = 1048576
 # The tables of lints, and what the name of a header has in it that one of them may look at.
 TOPICS = {"csp": "^.?c(?!ross).*(?:sec|pol)|^x-(?:content-s|webkit)", "csp_words": None,
           "cors": "ac+es+-|-control-|allow|expose|^cross-origin-r", "hsts": "^.?strict|^hsts$|transport-sec",
-          "referrer": "^ref", "framing": "^content-length$", "coding": "^content-encoding$", "integrity": None}
+          "referrer": "^ref", "framing": "^content-length$", "coding": "^content-encoding$", "integrity": None,
+          "status": None}
 
 
 class Ask:
@@ -217,6 +219,23 @@ class Field:
             parts += [(part, start)] if part.strip(" \t;") else []
             start += len(part) + 1
         return [Policy(self, number, *part) for number, part in enumerate(parts or [("", self.first)])]
+
+
+class Status:
+    """The status of an answer: `asks` are the requests that get it."""
+
+    kinds = ("a status",)
+    where = ANSWER
+    at = header = "status"
+
+    def __init__(self, value: int, asks: Sequence[Ask]) -> None:
+        self.value = value
+        self.topics = ("status",) if value == NOT_MODIFIED else ()
+        self.asks = list(asks)[:MOST_ASKS]
+
+    @property
+    def whole_value(self) -> str:
+        return str(self.value)
 
 
 class Options:
