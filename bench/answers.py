@@ -1,4 +1,5 @@
-"""What a fetch to the own origin sees of the bytes of an answer, by docs/rules/answers.md, written anew for bench/fuzz.py."""
+"""What a fetch to the own origin sees of the bytes of an answer, by docs/rules/answers.md, written anew for
+bench/fuzz.py."""
 import re
 
 MOST_HEADS = 65536

@@ -1,7 +1,7 @@
 #!/usr/bin/env bash
-# What an audit costs beside the play that it checks, on the proved programs: the instructions of both for scenarios of 8
-# and of 64 documents with 200 PUTs each, on one processor, and how many times the one is the other; and the memory and
-# the processor time of an audit of 4 MB of scenario with 60 MB of play. PLAYAUDIT is the path of the program.
+# What an audit costs beside the play that it checks, on the proved programs: the instructions of both for scenarios of
+# 8 and of 64 documents with 200 PUTs each, on one processor, and how many times the one is the other; and the memory
+# and the processor time of an audit of 4 MB of scenario with 60 MB of play. PLAYAUDIT is the path of the program.
 set -eu
 source "$(dirname "${BASH_SOURCE[0]}")/common.bash"
 build_fetchplay
@@ -34,7 +34,8 @@ on_one() {
 }
 
 for count in 8 64; do
-    documents "$count" '{"repeat":200,"do":[{"fetch":{"url":"http://api.test/x","method":"PUT"}},{"wait":1}]}' >"$work/scenario"
+    documents "$count" '{"repeat":200,"do":[{"fetch":{"url":"http://api.test/x","method":"PUT"}},{"wait":1}]}' \
+        >"$work/scenario"
     framed >"$work/input"
     played=$(on_one "$program" play <"$work/scenario")
     audited=$(on_one "$audit" <"$work/input")
@@ -45,7 +46,8 @@ done
 printf '64 documents cost %d.%02d times as many as 8\n' $((audited / few)) $((audited * 100 / few % 100))
 
 body=$(head -c 60000 /dev/zero | tr '\0' x)
-documents 62 "{\"repeat\":16,\"do\":[{\"fetch\":{\"url\":\"/\",\"method\":\"POST\",\"body\":\"$body\"}}]}" >"$work/scenario"
+post='{"fetch":{"url":"/","method":"POST","body":"'$body'"}}'
+documents 62 '{"repeat":16,"do":['"$post"']}' >"$work/scenario"
 framed >"$work/input"
 /usr/bin/time -f '%U %M' -o "$work/memory" "$audit" <"$work/input" >/dev/null
 printf '%d bytes of input: %s seconds, and kilobytes of memory\n' "$(wc -c <"$work/input")" "$(cat "$work/memory")"

@@ -1,5 +1,6 @@
-// What each call of the C library costs: a line for each, with its name, the nanoseconds of the fastest of many calls, and the
-// bytes that it asks the heap for. bench/embed.py --calls builds and runs it, and writes what it prints to embed/costs.
+// What each call of the C library costs: a line for each, with its name, the nanoseconds of the fastest of many calls,
+// and the bytes that it asks the heap for. bench/embed.py --calls builds and runs it, and writes what it prints to
+// embed/costs.
 #include <stdio.h>
 #include <stdlib.h>
 #include <string.h>
@@ -131,7 +132,8 @@ static void requests(void) {
 
 static void checks(void) {
     fiorrudda_headers(&made);
-    fiorrudda_append(&made, T("Content-Security-Policy"), T("default-src 'self'; script-src 'self' https://cdn.example"));
+    fiorrudda_append(&made, T("Content-Security-Policy"),
+        T("default-src 'self'; script-src 'self' https://cdn.example"));
     COST(policies, 0, , &policies, &made);
     COST(upgrades, 1, , &policies);
     COST(check, 1, , &found, &policies, &client, &load, T(""), FIORRUDDA_CHECK_ENFORCED);
@@ -167,7 +169,8 @@ static void stand(uint32_t act) {
 }
 
 static void fetches(void) {
-    COST(fetch, 0, fiorrudda_request(&asked, T("GET"), T("/items")), &fetch, &client, &asked, 0, 1 << 20, &fault, &header);
+    COST(fetch, 0, fiorrudda_request(&asked, T("GET"), T("/items")), &fetch, &client, &asked, 0, 1 << 20, &fault,
+        &header);
     COST(act, 0, , &fetch, &word);
     COST(to_send, 0, , &fetch, WRITTEN);
     COST(input, 0, stand(FIORRUDDA_ACT_SEND), &fetch, FIORRUDDA_INPUT_SENT);
@@ -183,7 +186,8 @@ static void fetches(void) {
 }
 
 static void plays(void) {
-    COST(play, 0, , T("{\"format\":1,\"servers\":[{\"origin\":\"https://a.test\",\"rules\":[{\"status\":200,\"body\":\"hi\"}]}],"
+    COST(play, 0, , T("{\"format\":1,"
+        "\"servers\":[{\"origin\":\"https://a.test\",\"rules\":[{\"status\":200,\"body\":\"hi\"}]}],"
         "\"documents\":[{\"url\":\"https://a.test/\",\"script\":[{\"fetch\":{\"url\":\"/\"}}]}]}"), WRITTEN);
 }
 

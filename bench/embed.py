@@ -1,11 +1,12 @@
 #!/usr/bin/env python3
-"""What a fetch costs through the C library: bench/embed.py [FOLDER [FETCHPLAY]], where bin/lib left it, out/ where none is
-given, and the proved fetchplay, as crates/fetchplay/out/fetchplay.
+"""What a fetch costs through the C library: bench/embed.py [FOLDER [FETCHPLAY]], where bin/lib left it, out/ where none
+is given, and the proved fetchplay, as crates/fetchplay/out/fetchplay.
 
-It prints the instructions, by callgrind, that one more fetch of the same kind takes: those of the embed/play makes them; those of the one call that plays it all, fiorrudda_play; and those of all that fetchplay does.
+It prints the instructions, by callgrind, that one more fetch of the same kind takes: those of the embed/play makes
+them; those of the one call that plays it all, fiorrudda_play; and those of all that fetchplay does.
 
-    bench/embed.py --calls [FOLDER]     measures each call alone, and writes embed/costs, of which embed/header takes what
-                                        include/fiorrudda.h says"""
+    bench/embed.py --calls [FOLDER]     measures each call alone, and writes embed/costs, of which embed/header takes
+                                        what include/fiorrudda.h says"""
 import json
 import pathlib
 import re
@@ -54,8 +55,8 @@ def one_more(words, asked, only, room, read):
 
 
 ABOUT = """\
-# Of each call of the C library, as bench/calls.c makes it: its name, the nanoseconds of the fastest of 2,000 calls, and the
-# bytes that it asks the heap for. Written by bench/embed.py --calls on %(day)s: do not edit.
+# Each call of the C library, as bench/calls.c makes it: its name, the nanoseconds of the fastest of 2,000 calls, and
+# the bytes that it asks the heap for. Written by bench/embed.py --calls on %(day)s: do not edit.
 """
 
 
@@ -63,8 +64,8 @@ def calls(built):
     """Measures each call alone."""
     with tempfile.TemporaryDirectory() as folder:
         program = pathlib.Path(folder) / "calls"
-        made = ["cc", "-std=gnu11", "-O2", "-Wl,--wrap=malloc,--wrap=realloc", f"-I{built}/include", TOP / "bench/calls.c"]
-        subprocess.run([*made, built / "lib/libfiorrudda.a", "-o", program], check=True)
+        made = ["cc", "-std=gnu11", "-O2", "-Wl,--wrap=malloc,--wrap=realloc", f"-I{built}/include"]
+        subprocess.run([*made, TOP / "bench/calls.c", built / "lib/libfiorrudda.a", "-o", program], check=True)
         told = subprocess.run([program], stdout=subprocess.PIPE, text=True, check=True).stdout
     (TOP / "embed/costs").write_text(ABOUT % {"day": time.strftime("%d %B %Y").lstrip("0")} + told)
 
@@ -80,7 +81,8 @@ def main():
             subprocess.run([*made, built / "lib/libfiorrudda.a", "-o", room / name], check=True)
         flat = lambda text: subprocess.run([TOP / "embed/flat"], input=text, capture_output=True, check=True).stdout
         for name, asked in KINDS.items():
-            print(f"{name}: calls of the library", one_more([room / "play"], asked, r"fiorrudda_\w+", room, flat), flush=True)
+            told = one_more([room / "play"], asked, r"fiorrudda_\w+", room, flat)
+            print(f"{name}: calls of the library", told, flush=True)
         for name, asked in KINDS.items():
             told = one_more([room / "plays", "/dev/stdin"], asked, "fiorrudda_play", room, lambda text: text)
             print(f"{name}: fiorrudda_play", told, flush=True)

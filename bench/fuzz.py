@@ -5,14 +5,13 @@
     bench/fuzz.py [--seed N] --show scenario|answer NUMBER
 
 It makes 20,000 scenarios and 20,000 answers by mutation of those in examples/, by a seed, so that a run can be
-repeated; --show prints the input of one of them. Each is played on its own. Wanted of each play: status 0 with an output
-that ends in the line `done` and no complaint, or status 2 with no output and the one line `fetchplay: scenario refused
-at PLACE`; at most 2 seconds (where it took longer, on a machine that is busy, it is played once again) and 64 MB.
-Looked at besides: a scenario is refused at `json` exactly where Python reads no JSON tree that is 127 deep at most; an
-answer comes to the same in small pieces, in pieces of 4,096 bytes and of 65,536; and of an answer to a fetch of the own
-origin the script sees what bench/answers.py reads from it. FETCHPLAY is the path of the program, where it is not to be
-built.
-"""
+repeated; --show prints the input of one of them. Each is played on its own. Wanted of each play: status 0 with an
+output that ends in the line `done` and no complaint, or status 2 with no output and the one line `fetchplay: scenario
+refused at PLACE`; at most 2 seconds (where it took longer, on a machine that is busy, it is played once again) and 64
+MB. Looked at besides: a scenario is refused at `json` exactly where Python reads no JSON tree that is 127 deep at most;
+an answer comes to the same in small pieces, in pieces of 4,096 bytes and of 65,536; and of an answer to a fetch of the
+own origin the script sees what bench/answers.py reads from it. FETCHPLAY is the path of the program, where it is not to
+be built."""
 import argparse
 import copy
 import json
@@ -86,41 +85,46 @@ ANSWERS += [
 
 # Pieces that a mutation puts in: of JSON, of the format, of HTTP/1.1.
 SCENARIO_BITS = [
-    b'{', b'}', b'[', b']', b',', b':', b'"', b'\\', b'null', b'true', b'false', b'0', b'-1', b'1.0', b'1e0', b'-0', b'1e999',
-    b'18446744073709551616', b'4294967296', b'281474976710656', b'1099511627777', b'65537', b'1001', b'\xff', b'\xc3\x28',
-    b'\x00', b'\\u0000', b'\\ud800', b'\\u000a', b'${', b'${body}', b'${header:x}', b'${x}', b'"format":2,', b'"format":1,',
-    b'"body_limit":1,', b'"piece":1,', b'"now":5,', b'"raw":"HTTP/1.1 200\\r\\n\\r\\n",', b'"repeat":1000,"do":[]',
-    b'{"repeat":3,"do":[{"wait":1}]},', b'{"if":["ok"],"then":[]},', b'{"wait":4294967295},', b'{"fetch":{"url":"/"}},',
-    b'"top":"https://t.test/",', b'"method":"PUT",', b'"mode":"no-cors",', b'"credentials":"include",', b'"body":"",',
-    b'"headers":[["A","b"]],', b'"referrer":"none",', b'"integrity":"sha256-a",', b'"upload":true,', b'https://', b'//',
-    b'http://u:p@a.test/', b'ftp://a/', b'[::1]', b'%00', b'xn--a', b'.localhost', b'#x', b'?y', b'/../', b' ', b'\t', b'\n',
+    b'{', b'}', b'[', b']', b',', b':', b'"', b'\\', b'null', b'true', b'false', b'0', b'-1', b'1.0', b'1e0', b'-0',
+    b'1e999', b'18446744073709551616', b'4294967296', b'281474976710656', b'1099511627777', b'65537', b'1001', b'\xff',
+    b'\xc3\x28', b'\x00', b'\\u0000', b'\\ud800', b'\\u000a', b'${', b'${body}', b'${header:x}', b'${x}',
+    b'"format":2,', b'"format":1,', b'"body_limit":1,', b'"piece":1,', b'"now":5,',
+    b'"raw":"HTTP/1.1 200\\r\\n\\r\\n",', b'"repeat":1000,"do":[]', b'{"repeat":3,"do":[{"wait":1}]},',
+    b'{"if":["ok"],"then":[]},', b'{"wait":4294967295},', b'{"fetch":{"url":"/"}},', b'"top":"https://t.test/",',
+    b'"method":"PUT",', b'"mode":"no-cors",', b'"credentials":"include",', b'"body":"",', b'"headers":[["A","b"]],',
+    b'"referrer":"none",', b'"integrity":"sha256-a",', b'"upload":true,', b'https://', b'//', b'http://u:p@a.test/',
+    b'ftp://a/', b'[::1]', b'%00', b'xn--a', b'.localhost', b'#x', b'?y', b'/../', b' ', b'\t', b'\n',
 ]
 ANSWER_BITS = [
-    b'\r\n', b'\n', b'\r', b'\r\n\r\n', b'\n\n', b' ', b'\t', b':', b';', b',', b'"', b'\x00', b'\x7f', b'\xff', b'\x80', b'HTTP/1.1 ',
-    b'HTTP/1.0 ', b'HTTP/2 ', b'100 Continue\r\n\r\n', b'HTTP/1.1 101 \r\n\r\n', b'HTTP/1.1 103\r\n\r\n', b'200', b'204', b'304', b'999', b'000',
-    b'301', b'303', b'307', b'Location: /\r\n', b'Location: https://b.test/\r\n', b'Location: ftp://a\r\n', b'Location:\r\n',
-    b'Content-Length: 3\r\n', b'Content-Length: 0\r\n', b'Content-Length: 3, 3\r\n', b'Content-Length: 99999999999999999999\r\n',
-    b'Content-Length: -1\r\n', b'Content-Length: +1\r\n', b'Transfer-Encoding: chunked\r\n', b'Transfer-Encoding: gzip, chunked\r\n',
-    b'Content-Encoding: gzip\r\n', b'0\r\n\r\n', b'5\r\nhello\r\n', b'FFFFFFFFFFFFFFFF\r\n', b'00000000000000001\r\n', b'1;x\r\na\r\n', b'1\na',
-    b'T: v\r\n', b' folded\r\n', b'A : b\r\n', b'Strict-Transport-Security: max-age=1\r\n', b'Strict-Transport-Security: max-age="\r\n',
-    b'Access-Control-Allow-Origin: *\r\n', b'Access-Control-Allow-Credentials: true\r\n', b'Access-Control-Max-Age: x\r\n',
-    b'Access-Control-Allow-Methods: ,,\r\n', b'Access-Control-Allow-Headers: *\r\n', b'Cross-Origin-Resource-Policy: same-site\r\n',
-    b'X-Content-Type-Options: nosniff\r\n', b'Content-Type: */*, text/css\r\n', b'Set-Cookie: a=b\r\n', b'Referrer-Policy: no-referrer\r\n',
-    b'a' * 4096, b'a' * 65536, b'A: b\r\n' * 129, b'1\r\na\r\n' * 500, b'\r\n' * 300, b'HTTP/1.1 100 \r\n\r\n' * 100,
+    b'\r\n', b'\n', b'\r', b'\r\n\r\n', b'\n\n', b' ', b'\t', b':', b';', b',', b'"', b'\x00', b'\x7f', b'\xff',
+    b'\x80', b'HTTP/1.1 ', b'HTTP/1.0 ', b'HTTP/2 ', b'100 Continue\r\n\r\n', b'HTTP/1.1 101 \r\n\r\n',
+    b'HTTP/1.1 103\r\n\r\n', b'200', b'204', b'304', b'999', b'000', b'301', b'303', b'307', b'Location: /\r\n',
+    b'Location: https://b.test/\r\n', b'Location: ftp://a\r\n', b'Location:\r\n', b'Content-Length: 3\r\n',
+    b'Content-Length: 0\r\n', b'Content-Length: 3, 3\r\n', b'Content-Length: 99999999999999999999\r\n',
+    b'Content-Length: -1\r\n', b'Content-Length: +1\r\n', b'Transfer-Encoding: chunked\r\n',
+    b'Transfer-Encoding: gzip, chunked\r\n', b'Content-Encoding: gzip\r\n', b'0\r\n\r\n', b'5\r\nhello\r\n',
+    b'FFFFFFFFFFFFFFFF\r\n', b'00000000000000001\r\n', b'1;x\r\na\r\n', b'1\na', b'T: v\r\n', b' folded\r\n',
+    b'A : b\r\n', b'Strict-Transport-Security: max-age=1\r\n', b'Strict-Transport-Security: max-age="\r\n',
+    b'Access-Control-Allow-Origin: *\r\n', b'Access-Control-Allow-Credentials: true\r\n',
+    b'Access-Control-Max-Age: x\r\n', b'Access-Control-Allow-Methods: ,,\r\n', b'Access-Control-Allow-Headers: *\r\n',
+    b'Cross-Origin-Resource-Policy: same-site\r\n', b'X-Content-Type-Options: nosniff\r\n',
+    b'Content-Type: */*, text/css\r\n', b'Set-Cookie: a=b\r\n', b'Referrer-Policy: no-referrer\r\n', b'a' * 4096,
+    b'a' * 65536, b'A: b\r\n' * 129, b'1\r\na\r\n' * 500, b'\r\n' * 300, b'HTTP/1.1 100 \r\n\r\n' * 100,
 ]
 LINES = [bit[:-2] for bit in ANSWER_BITS if bit.endswith(b'\r\n') and b': ' in bit and bit.count(b'\n') == 1]
 VALUES = [
-    None, True, False, 0, 1, -1, 2, 1.0, 1e300, 65535, 65536, 65537, 2 ** 32 - 1, 2 ** 32, 2 ** 48, 2 ** 64, '', ' ', 'a', 'x' * 9000,
-    '\u0000', '\n', '\u00e9', '\ud83d\ude00', '${status}', '${', '$', 'https://a.test', 'https://a.test/', 'http://b.test/x?y#z', '//', 'ftp:',
-    'GET', 'PUT', 'cors', 'navigate', 'error', 'include', 'none', 'client', 'script', [], {}, [[]], [1], ['ok'], ['status', 1000],
-    ['type', 'cors'], [['A', 'b']], [['A', 'b', 'c']], {'fetch': {'url': '/'}}, {'load': {'kind': 'image', 'url': '/i'}},
-    [{'wait': 1}], {'repeat': 2, 'do': [{'fetch': {'url': '/'}}]}, {'if': ['ok'], 'then': []},
+    None, True, False, 0, 1, -1, 2, 1.0, 1e300, 65535, 65536, 65537, 2 ** 32 - 1, 2 ** 32, 2 ** 48, 2 ** 64, '', ' ',
+    'a', 'x' * 9000, '\u0000', '\n', '\u00e9', '\ud83d\ude00', '${status}', '${', '$', 'https://a.test',
+    'https://a.test/', 'http://b.test/x?y#z', '//', 'ftp:', 'GET', 'PUT', 'cors', 'navigate', 'error', 'include',
+    'none', 'client', 'script', [], {}, [[]], [1], ['ok'], ['status', 1000], ['type', 'cors'], [['A', 'b']],
+    [['A', 'b', 'c']], {'fetch': {'url': '/'}}, {'load': {'kind': 'image', 'url': '/i'}}, [{'wait': 1}],
+    {'repeat': 2, 'do': [{'fetch': {'url': '/'}}]}, {'if': ['ok'], 'then': []},
 ]
 KEYS = [
-    'format', 'body_limit', 'now', 'hsts', 'cookies', 'servers', 'routes', 'piece', 'documents', 'origin', 'rules', 'method', 'path', 'raw',
-    'status', 'headers', 'body', 'url', 'top', 'script', 'fetch', 'load', 'wait', 'repeat', 'do', 'if', 'then', 'else', 'mode', 'credentials',
-    'redirect', 'referrer', 'referrer_policy', 'integrity', 'upload', 'kind', 'crossorigin', 'nonce', 'parser', 'host', 'subdomains',
-    'until', '', 'x',
+    'format', 'body_limit', 'now', 'hsts', 'cookies', 'servers', 'routes', 'piece', 'documents', 'origin', 'rules',
+    'method', 'path', 'raw', 'status', 'headers', 'body', 'url', 'top', 'script', 'fetch', 'load', 'wait', 'repeat',
+    'do', 'if', 'then', 'else', 'mode', 'credentials', 'redirect', 'referrer', 'referrer_policy', 'integrity', 'upload',
+    'kind', 'crossorigin', 'nonce', 'parser', 'host', 'subdomains', 'until', '', 'x',
 ]
 
 
@@ -199,7 +203,8 @@ def mutate_tree(rng, tree):
             is_deep = True
             parent[key] = deep(rng, value)
         elif kind == 6 and isinstance(value, str):
-            parent[key] = mutate_bytes(rng, value.encode('utf-8', 'surrogatepass'), SCENARIO_BITS, TEXTS).decode('latin-1')
+            given = value.encode('utf-8', 'surrogatepass')
+            parent[key] = mutate_bytes(rng, given, SCENARIO_BITS, TEXTS).decode('latin-1')
         elif kind == 7 and isinstance(value, int):
             parent[key] = rng.choice([value + 1, value - 1, -value, value * 1000, value + 0.5, str(value)])
         else:
@@ -243,8 +248,8 @@ def with_lines(rng, raw, few):
         place = rng.randrange(len(lines))
         lines[place] = mutate_bytes(rng, lines[place], ANSWER_BITS, LINES)
     if rng.randrange(3):
-        body = mutate_bytes(rng, rng.choice([body, b'2\r\nhi\r\n0\r\n\r\n', b'a\r\n0123456789\r\n0\r\nT: v\r\n\r\n', b'hello']),
-                            ANSWER_BITS, ANSWERS)
+        bodies = [body, b'2\r\nhi\r\n0\r\n\r\n', b'a\r\n0123456789\r\n0\r\nT: v\r\n\r\n', b'hello']
+        body = mutate_bytes(rng, rng.choice(bodies), ANSWER_BITS, ANSWERS)
     return rng.choice([b'\r\n', b'\r\n', b'\r\n', b'\n']).join(lines) + end + body
 
 
@@ -369,7 +374,8 @@ def play(program, text):
             os.lseek(file, 0, os.SEEK_SET)
             with os.fdopen(os.dup(file), 'rb') as opened:
                 outputs.append(opened.read())
-        return os.waitstatus_to_exitcode(state), outputs[0], outputs[1], seconds, int((outputs[2].split() or [b'0'])[-1])
+        kilobytes = int((outputs[2].split() or [b'0'])[-1])
+        return os.waitstatus_to_exitcode(state), outputs[0], outputs[1], seconds, kilobytes
     finally:
         for file in files:
             os.close(file)
@@ -397,8 +403,8 @@ def judged(program, text):
     return ran, wrong
 
 
-RESULT = re.compile(rb'^(?:result (?:basic|cors|opaqueredirect|opaque|loaded|type-error \d+|error \d+|failed type-error \d+'
-                    rb'|failed \d+)|  body [a-z]+)', re.MULTILINE)
+RESULT = re.compile(rb'^(?:result (?:basic|cors|opaqueredirect|opaque|loaded|type-error \d+|error \d+'
+                    rb'|failed type-error \d+|failed \d+)|  body [a-z]+)', re.MULTILINE)
 
 
 def kinds_of(ran):

@@ -3,15 +3,15 @@
 #
 #     bench/gate.sh                           these files: first `fetchplay` without edits, then all of `rt ci`
 #     bench/gate.sh against COMMIT            that commit and these files, and the ratios
-#     bench/gate.sh against COMMIT in STEPS   the same in so many steps: a part of the one's crates, then of the other's,
-#                                             so that a run that is cut off tells the ratio of what it came to
+#     bench/gate.sh against COMMIT in STEPS   the same in so many steps: a part of the one's crates, then of the
+#                                             other's, so that a run that is cut off tells the ratio of what it came to
 #     bench/gate.sh fetchplay against COMMIT  the first part alone
 #
 # It tells processor time (user and system) and wall time, and of these files how the processor time is shared among the
 # crates, and among their proofs, their tests and the edits that must fail, in seconds. The shares are read off the
 # running checks once a second, so they are a little less than the whole. On a machine that others share a processor may
-# be half as fast for minutes: so a fixed piece of work is timed now and then beside the runs, and the ratio is told by it
-# too.
+# be half as fast for minutes: so a fixed piece of work is timed now and then beside the runs, and the ratio is told by
+# it too.
 set -eu
 source "$(dirname "${BASH_SOURCE[0]}")/common.bash"
 cd "$root"
@@ -103,12 +103,14 @@ told() {
     local tree
     for tree in $trees; do
         awk -v name="$1, $tree" '{ cpu += $1 + $2; wall += $4 - $3 }
-            END { printf "%s: processor time %.1f minutes, wall time %.1f minutes\n", name, cpu / 60, wall / 60 }' "$work/$tree.times"
+            END { printf "%s: processor time %.1f minutes, wall time %.1f minutes\n", name, cpu / 60, wall / 60 }' \
+            "$work/$tree.times"
     done
     [ -z "$against" ] || awk -v name="$1" -v those="$(pace_of those)" -v these="$(pace_of these)" '
         FNR == 1 { at++ } { cpu[at] += $1 + $2; wall[at] += $4 - $3 }
         END { printf "%s, ratio: processor time %.3f, wall time %.3f\n", name, cpu[2] / cpu[1], wall[2] / wall[1]
-            if (those > 0 && these > 0) printf "the fixed work took %.3f s and %.3f s; by it the ratio is %.3f, and of wall time %.3f\n", those, these,
+            by_it = "the fixed work took %.3f s and %.3f s; by it the ratio is %.3f, and of wall time %.3f\n"
+            if (those > 0 && these > 0) printf by_it, those, these,
                 cpu[2] / these / (cpu[1] / those), wall[2] / these / (wall[1] / those) }' \
         "$work/those.times" "$work/these.times"
 }

@@ -1,8 +1,8 @@
 #!/usr/bin/env bash
 # What bin/har takes for one recording of 10,000, 20,000 and 40,000 entries (bench/recordings), and --many for
 # recordings with 50, 1,000 and 10,000, by 1, 2 and 4 jobs: the wall time, the processor time and the recordings in a
-# second, with all that is beside them (the start, the summary), and the memory of the largest process. The machine is to
-# do nothing else, and what it does is told (the load). FETCHPLAY names the program; a number as a word is that of
+# second, with all that is beside them (the start, the summary), and the memory of the largest process. The machine is
+# to do nothing else, and what it does is told (the load). FETCHPLAY names the program; a number as a word is that of
 # recordings in each run of many, in the place of 400, 40 and 8.
 set -eu
 source "$(dirname "${BASH_SOURCE[0]}")/common.bash"

@@ -1,7 +1,7 @@
 #!/usr/bin/env bash
-# What a fetch over the network costs: 1,000 fetches of 1,024 bytes over the loopback, a connection each, by `fetchplay net`,
-# and the same requests by one call of curl without keep-alive. It prints the processor time of each, the median of five
-# runs. The server is python3's, on a processor of its own where there are several.
+# What a fetch over the network costs: 1,000 fetches of 1,024 bytes over the loopback, a connection each, by `fetchplay
+# net`, and the same requests by one call of curl without keep-alive. It prints the processor time of each, the median
+# of five runs. The server is python3's, on a processor of its own where there are several.
 set -eu
 source "$(dirname "${BASH_SOURCE[0]}")/common.bash"
 build_fetchplay
@@ -33,7 +33,8 @@ while [ ! -s "$work/port" ]; do sleep 0.1; done
 address=127.0.0.1:$(cat "$work/port")
 
 printf '{"format":1,"routes":[["http://a.test","%s"]],"documents":[{"url":"http://a.test/","script":[
-    {"repeat":1000,"do":[{"fetch":{"url":"/","mode":"same-origin","referrer":"none"}}]}]}]}' "$address" >"$work/scenario"
+    {"repeat":1000,"do":[{"fetch":{"url":"/","mode":"same-origin","referrer":"none"}}]}]}]}' "$address" \
+    >"$work/scenario"
 
 # The processor time of a command, in milliseconds, the median of five runs.
 median() {

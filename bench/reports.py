@@ -14,7 +14,8 @@ def scenario(rules, documents):
 def violating(count, policy):
     """One document, whose fetches each violate a report-only policy twice."""
     script = [{"repeat": count, "do": [{"fetch": {"url": "/x", "referrer": "none"}}]}]
-    return scenario([{"status": 200}], [{"url": "http://a.test/", "headers": [[REPORT_ONLY, policy]], "script": script}])
+    document = {"url": "http://a.test/", "headers": [[REPORT_ONLY, policy]], "script": script}
+    return scenario([{"status": 200}], [document])
 
 
 def posts(count):

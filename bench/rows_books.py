@@ -1,8 +1,8 @@
 #!/usr/bin/env python3
 """Writes the rows of crates/rows_books on a book that are made by a rule, and what a plain list of entries and a plain
-list of hosts come to on all of them: its `stdin` and `stdout`, but for the rows of the wire before them and the calls of a
-book after them, which stay as they are.
-`bench/rows_books.py` compares what is there with what this script would write; with `--write` it writes them.
+list of hosts come to on all of them: its `stdin` and `stdout`, except the rows of the wire before them and the calls
+of a book after them, which stay as they are. `bench/rows_books.py` compares what is there with what this script would
+write; with `--write` it writes them.
 
 The rows by hand are in ROWS, each with its answer."""
 import os
@@ -90,7 +90,7 @@ def last_names():
 
 
 def most_hosts():
-    """Of 4,096 hosts, until 100 each but two until 50, the first of these goes for another one."""
+    """The list is full: 4,096 hosts, until 100 each except two until 50. The first of these goes for another one."""
     yield "# Of 4,096 hosts, and one more, the one goes that ends first: of two the first by its bytes."
     hosts = [f"h{number:04}.test" for number in range(4096)]
     for start in range(0, 4096, 16):

@@ -1,9 +1,9 @@
 #!/usr/bin/env bash
-# What scripts cost, on the proved program. Instructions a byte of reading scenarios of some 4,000,000 bytes: of
-# waits alone, of fetches with headers and templates, and of fetches with a body of 4,000 bytes. They stand in a
-# repetition of none, so that nothing is played. Beside each what it costs where its format is refused, which is once the
-# tree stands. Then the instructions of a wait, of a load and of a fetch with templates more, and the memory of a script
-# that puts a body of 1,000,000 bytes 1,000 times into another.
+# What scripts cost, on the proved program. Instructions a byte of reading scenarios of some 4,000,000 bytes: of waits
+# alone, of fetches with headers and templates, and of fetches with a body of 4,000 bytes. They stand in a repetition of
+# none, so that nothing is played. Beside each what it costs where its format is refused, which is once the tree stands.
+# Then the instructions of a wait, of a load and of a fetch with templates more, and the memory of a script that puts a
+# body of 1,000,000 bytes 1,000 times into another.
 set -eu
 source "$(dirname "${BASH_SOURCE[0]}")/common.bash"
 build_fetchplay
@@ -26,7 +26,8 @@ a_byte() {
 
 long=$(printf 'b%.0s' $(seq 4000))
 a_byte 'waits' '{"wait":1}'
-a_byte 'fetches' '{"fetch":{"url":"/path?query","method":"POST","headers":[["X-A","${status}"],["X-B","b"]],"body":"${body}"}}'
+a_byte 'fetches' '{"fetch":{"url":"/path?query","method":"POST","headers":[["X-A","${status}"],["X-B","b"]],'\
+'"body":"${body}"}}'
 a_byte 'fetches with 4,000 bytes' '{"fetch":{"url":"/","method":"POST","body":"'"$long"'"}}'
 
 # A scenario whose script has so many of a command.

@@ -1,9 +1,9 @@
 #!/usr/bin/env bash
-# What a served request costs. The instructions of a connection more, from 100 to 200 over the loopback, with a table of one
-# row, with one of 256 rows of 4,096 bytes, which names fill, and with one that methods fill; each request has the origin of
-# the last row and the method that it lists last. Then the processor time of 1,000 connections one after the other, with the
-# second table, the median of five runs. Ends with 1 where one of the first two is above 25,000 instructions, or a connection
-# above 0.15 ms. CORSSERVE is the path of the program, where it is not to be built.
+# What a served request costs. The instructions of a connection more, from 100 to 200 over the loopback, with a table of
+# one row, with one of 256 rows of 4,096 bytes, which names fill, and with one that methods fill; each request has the
+# origin of the last row and the method that it lists last. Then the processor time of 1,000 connections one after the
+# other, with the second table, the median of five runs. Ends with 1 where one of the first two is above 25,000
+# instructions, or a connection above 0.15 ms. CORSSERVE is the path of the program, where it is not to be built.
 set -eu -o pipefail
 source "$(dirname "${BASH_SOURCE[0]}")/common.bash"
 build_corsserve
@@ -100,7 +100,8 @@ for table in one many; do
     printf 'a request more, rows of 4,096 bytes in the table: %d, instructions: %d\n' "$(wc -l <"$work/$table")" "$cost"
     [ "$cost" -le 25000 ] || over=$((over + 1))
 done
-printf 'the same with 256 rows of 2,000 methods, of which the last is asked with: %d\n' "$(request_more "$work/methods")"
+printf 'the same with 256 rows of 2,000 methods, of which the last is asked with: %d\n' \
+    "$(request_more "$work/methods")"
 times=$(for _ in 1 2 3 4 5; do
     served "$work/many" 1000 timed "$program" || exit 1
     cat "$work/said"

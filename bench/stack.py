@@ -59,8 +59,9 @@ CASES = [
     ('4,194,304 opening brackets', b'[' * MOST, 2),
     ('4 MB of opening objects', b'{"a":' * (MOST // 5), 2),
     ('one text of 4 MB with an escape at each place', b'"' + b'\\n' * ((MOST - 2) // 2) + b'"', 2),
-    ('a body of 4 MB', filled(b'{"format":2,"servers":[{"origin":"https://a.test","rules":[{"status":200,"body":"', b'aaaaaaaaa',
-                              b'"}]}],"documents":' + b'[{"url":"https://a.test/","script":[' + FETCH + b']}]}'), 0),
+    ('a body of 4 MB', filled(
+        b'{"format":2,"servers":[{"origin":"https://a.test","rules":[{"status":200,"body":"', b'aaaaaaaaa',
+        b'"}]}],"documents":' + b'[{"url":"https://a.test/","script":[' + FETCH + b']}]}'), 0),
 ]
 
 

@@ -7,7 +7,7 @@ source "$(dirname "${BASH_SOURCE[0]}")/common.bash"
 build_fetchplay
 
 body=$(printf 'b%.0s' {1..1024})
-answer="{\"status\":200,\"headers\":[[\"Content-Type\",\"text/plain\"],[\"Content-Length\",\"1024\"]],\"body\":\"$body\"}"
+answer='{"status":200,"headers":[["Content-Type","text/plain"],["Content-Length","1024"]],"body":"'$body'"}'
 
 # A GET of the document's own origin, whose answer has two headers and a body of 1,024 bytes and comes in pieces of so
 # many bytes.

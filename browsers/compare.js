@@ -37,7 +37,7 @@ function headersOf(request) {
     const key = name.toLowerCase();
     lines.set(key, [...(lines.get(key) || []), { name, value }]);
   });
-  // Blanks at the ends are no part of a value on the wire. Of equal names the last spelling counts.
+  // Blanks at the ends are no part of a value on the wire. The last spelling of equal names counts.
   const joined = (equal) => ({ name: equal[equal.length - 1].name,
     value: equal.map(({ value }) => value.trim()).join(", ").trim() });
   return new Map([...lines].map(([key, equal]) => [key, joined(equal)]));

@@ -140,7 +140,7 @@ function begin(command, number) {
       return heardParsed("load" + number);
     }
     const element = elements[asked.kind](asked);
-    // Of several manifests a document takes the first that its head has.
+    // A document takes the first manifest that its head has.
     document.querySelectorAll("link[rel=manifest]").forEach((other) => other.remove());
     const told = asked.kind === "manifest" ? Promise.resolve({ event: "none" }) : heard(element);
     (asked.kind === "manifest" ? document.head : document.body).appendChild(element);

@@ -43,7 +43,7 @@ class Schemas {
     return [own, ...this.linked(this.root.$defs[name.replace("#/$defs/", "")])];
   }
 
-  // All schemas that hold for a node, each by itself. Of alternatives it is the one that is meant; where none is, or the
+  // All schemas that hold for a node, each by itself: among alternatives the one that is meant; where none is, or the
   // node is null, all of them.
   holding(node, schema) {
     return this.linked(schema).flatMap((one) => [one, ...this.conditional(node, one), ...this.alternative(node, one)]);

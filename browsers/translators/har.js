@@ -58,7 +58,7 @@ function isNext(entry, before) {
 const isInternal = ({ response }) => valueOf(response.headers, "non-authoritative-reason") !== null
   || response.statusText === "Internal Redirect";
 
-// Of a request that failed Chromium records the headers before it added its own, so that there is no Host.
+// Chromium records the headers of a failed request before it adds its own, so that there is no Host.
 function requestOf({ request, startedDateTime }) {
   const url = new URL(request.url);
   const body = request.postData && request.postData.text;

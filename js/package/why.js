@@ -5,7 +5,7 @@ function valuesOf(headers, name) {
   return headers.filter(([one]) => one.toLowerCase() === name).map(([, value]) => value);
 }
 
-// Of an answer that fails the CORS check.
+// Why an answer fails the CORS check.
 function corsRefused({ sent, head, includes }) {
   const origin = valuesOf(sent.headers, "origin")[0] || "null";
   const allowed = valuesOf(head.headers, "access-control-allow-origin");

@@ -87,7 +87,7 @@ async function checkOwn(context, playground) {
   await compare(context, "a play: what is said of it", parts.filter((part) => !told.body.includes(part)), []);
 }
 
-// Of what is no play, and of a long one, nothing is said.
+// Nothing is said of what is no play, nor of a long one.
 async function checkUnsaid(context, playground) {
   const unsaid = [
     ["what is no play", { scenario: "{}", play: "none\n" }],

@@ -225,8 +225,8 @@ def preflight_verdict(client: Client, request: Asked, status: int, headers: List
 
 
 def seen(client: Client, request: Asked, status: int, headers: Listed, tainting: str = "cors") -> Seen:
-    """What a page sees of an answer: the `basic`, `cors` or `opaque` filtered response (Fetch, section 2.2.6). Of a
-    redirect in redirect mode `manual` it is an opaque-redirect one: status 0, and no headers."""
+    """What a page sees of an answer: the `basic`, `cors` or `opaque` filtered response (Fetch, section 2.2.6). A
+    redirect in redirect mode `manual` gives an opaque-redirect one: status 0, and no headers."""
     shown, status_seen, answer = Headers(), ctypes.c_uint32(0), _list(headers)
     _told(_lib.fiorrudda_filtered(shown._handle, client._handle, request._handle, answer._handle, _status(status),
                                   _number_of(tainting, _TAINTINGS, "tainting"), status_seen))

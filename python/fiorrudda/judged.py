@@ -42,7 +42,7 @@ class Sends(NamedTuple):
 
     @classmethod
     def of_request(cls, origin: bytes, request: bytes) -> "Sends":
-        """Of a server's origin, and of all bytes that it is sent."""
+        """What is sent to a server: its origin, and all bytes of the request."""
         head = request[:request.index(b"\r\n\r\n")]
         method, target, _ = head.split(b" ", 2)
         return cls((origin + target).decode("latin-1"), method.decode("latin-1"), head)
@@ -194,7 +194,7 @@ def judge_answer(client: Client, request: Asked, status: int, headers: Listed, b
 
 
 def _head(status: int, headers: Headers, framing: bytes = b"") -> bytes:
-    """The bytes of a head, but for what frames and codes a body."""
+    """The bytes of a head, except what frames and codes a body."""
     if not 0 <= status <= 999:
         raise ValueError(f"{status} is no status")
     pairs = [(name, value) for name, value in headers.pairs() if name.lower() not in _FRAMING]

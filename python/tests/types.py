@@ -1,5 +1,4 @@
-"""Checks the types of the package, of the tools and of TYPED among the checks by `mypy --strict`, where mypy is there:
-the other checks have no types yet."""
+"""Checks the types of the package, of the tools and of the checks by `mypy --strict`, where mypy is there."""
 from __future__ import annotations
 
 import os
@@ -9,19 +8,13 @@ import sys
 
 from fiorrudda.places import ROOT
 
-TYPED = [
-    "tests/base.py", "tests/sockets.py", "tests/standard.py", "tests/types.py", "tests/commands/cases.py",
-    "tests/commands/loopback.py", "tests/embed", "tests/gallery", "tests/js", "tests/library", "tests/net",
-    "tests/package", "tests/schema", "tests/server",
-]
-
 
 def main() -> int:
     if not shutil.which("mypy"):
         print("python/types: left out, since there is no mypy", file=sys.stderr)
         return 0
     words = ["mypy", "--strict", "--config-file", os.path.join(ROOT, "python", "pyproject.toml"),
-             "--cache-dir", os.devnull, "fiorrudda", "tools", *TYPED]
+             "--cache-dir", os.devnull, "fiorrudda", "tools", "tests"]
     told = subprocess.run(words, cwd=os.path.join(ROOT, "python"), stdout=subprocess.PIPE, stderr=subprocess.STDOUT,
                           text=True)
     if told.returncode:

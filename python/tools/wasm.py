@@ -49,7 +49,7 @@ def keeping_toolchain(kit: pathlib.Path, folder: pathlib.Path, module: pathlib.P
 
 
 def compiled(clang: pathlib.Path, words: Sequence[Word], source: pathlib.Path, made: pathlib.Path) -> None:
-    """Compiles, and shows what clang says, but for the processor of another target."""
+    """Compiles, and shows what clang says, except the processor of another target."""
     done = subprocess.run([clang, *TARGET, *words, "-c", source, "-o", made], stderr=subprocess.PIPE, text=True)
     said = [line for line in done.stderr.splitlines() if not any(it in line for it in OF_TARGET)]
     if said:

@@ -17,8 +17,8 @@ function galleryNames() {
     .map(({ name }) => name).filter((name) => fs.existsSync(path.join(ROOT, "gallery", name, "scenario.json")));
 }
 
-// Each with the numbers of its marks, its refusals and its entries, by the stored play. Of several documents each run
-// may be another play, so nothing is counted there.
+// Each with the numbers of its marks, its refusals and its entries, by the stored play. Each run
+// of several documents may be another play, so nothing is counted there.
 function questions() {
   return galleryNames().map((name) => {
     const text = fs.readFileSync(path.join(ROOT, "gallery", name, "play.txt"), "latin1");

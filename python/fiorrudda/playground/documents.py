@@ -53,33 +53,38 @@ class Writer:
     def block(self, block: Block) -> str:
         kind = block[0]
         if kind == "title":
-            return '<h%d id="%s">%s</h%d>' % (block[1], markdown.anchor(block[2]), self.spans(block[2]), block[1])
+            level, text = block[1:]
+            return f'<h{level} id="{markdown.anchor(text)}">{self.spans(text)}</h{level}>'
         if kind == "paragraph":
             return f"<p>{self.spans(block[1])}</p>"
         if kind == "code":
-            return "<pre><code>%s</code></pre>" % escape("\n".join(block[1]))
+            lines = "\n".join(block[1])
+            return f"<pre><code>{escape(lines)}</code></pre>"
         if kind == "table":
             rows = [self.heads(block[1])] + [self.row(row, block[1]) for row in block[2]]
-            return "<table>\n%s\n</table>" % "\n".join(rows)
+            return "\n".join(["<table>", *rows, "</table>"])
         if kind == "quote":
-            return "<blockquote>%s</blockquote>" % "\n".join(map(self.block, block[1]))
+            return f"<blockquote>{self.body(block[1])}</blockquote>"
         name = "ol" if block[1] else "ul"
-        return "<%s>%s</%s>" % (name, "\n".join(f"<li>{self.item(item)}</li>" for item in block[2]), name)
+        items = "\n".join(f"<li>{self.item(item)}</li>" for item in block[2])
+        return f"<{name}>{items}</{name}>"
 
     def item(self, item: list[Block]) -> str:
         """An item of one paragraph stands without it."""
         if len(item) == 1 and item[0][0] == "paragraph":
             return self.spans(item[0][1])
-        return "\n".join(map(self.block, item))
+        return self.body(item)
 
     def heads(self, cells: list[list[Span]]) -> str:
-        return "<tr>%s</tr>" % "".join(f"<th>{self.spans(cell)}</th>" for cell in cells)
+        names = "".join(f"<th>{self.spans(cell)}</th>" for cell in cells)
+        return f"<tr>{names}</tr>"
 
     def row(self, cells: list[list[Span]], heads: list[list[Span]]) -> str:
         """On a narrow screen each cell stands by itself, behind the head of its column."""
         names = [escape(markdown.plain(head)) for head in heads] + [""] * len(cells)
-        marks = [' data-head="%s"' % name if name else "" for name in names]
-        return "<tr>%s</tr>" % "".join(f"<td{mark}>{self.spans(cell)}</td>" for mark, cell in zip(marks, cells))
+        marks = [f' data-head="{name}"' if name else "" for name in names]
+        own = "".join(f"<td{mark}>{self.spans(cell)}</td>" for mark, cell in zip(marks, cells))
+        return f"<tr>{own}</tr>"
 
     def spans(self, spans: list[Span]) -> str:
         return "".join(map(self.span, spans))
@@ -93,8 +98,9 @@ class Writer:
             return f"<code>{escape(content)}</code>"
         if kind == "link":
             inner = self.spans(content)
-            return inner if self.is_dead(span[2]) else '<a href="%s">%s</a>' % (escape(span[2]), inner)
-        return {"strong": "<strong>%s</strong>", "emphasis": "<em>%s</em>"}[kind] % self.spans(content)
+            return inner if self.is_dead(span[2]) else f'<a href="{escape(span[2])}">{inner}</a>'
+        name = {"strong": "strong", "emphasis": "em"}[kind]
+        return f"<{name}>{self.spans(content)}</{name}>"
 
     def is_dead(self, link: str) -> bool:
         """Whether a link within the repository leads to what the page does not hold."""

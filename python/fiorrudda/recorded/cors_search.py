@@ -114,7 +114,7 @@ def lacking(case: Case) -> Iterator[Lack]:
 
 
 def of_check(case: Case) -> Iterator[Lack]:
-    """What the CORS check wants. Of the origin `null`, which any page may have, `*` is the only good value, and there
+    """What the CORS check wants. For the origin `null`, which any page may have, `*` is the only good value, and there
     is none with credentials."""
     if case.origin == "null" and case.includes:
         return

@@ -156,7 +156,7 @@ class Site:
                             if scheme_of(url) == "http" and not is_trustworthy(url) and origin_of(url) != own)
 
     def relative(self, changes: Changes) -> list[str]:
-        """Of how many requests nothing says that their URL goes with the page."""
+        """How many requests have a URL of which nothing says that it goes with the page."""
         count = sum(finding.command.asked.element is None for finding in self.following(changes))
         return [RELATIVE % f"{count} request{'' if count == 1 else 's'}"] if count else []
 

@@ -17,7 +17,7 @@ from fiorrudda.recorded.verdicts import Finding
 
 @dataclass
 class Shown:
-    """Of an https origin the first entry that answered, and the first that failed, with its cause."""
+    """The first entry of an https origin that answered, and the first that failed, with its cause."""
 
     answered: Optional[int] = None
     failed: Optional[int] = None

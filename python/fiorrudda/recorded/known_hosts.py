@@ -50,8 +50,8 @@ class Book:
             self.hosts[known.host] = known
 
     def at(self, time: Optional[float], names: Optional[Callable[[], set[str]]] = None) -> list[dict[str, Any]]:
-        """Those that are known at a time, as a scenario has them, whose clock begins at 0. Of many hosts those that are
-        among some names."""
+        """Those that are known at a time, as a scenario has them, whose clock begins at 0. Where there are many
+        hosts, those among some names alone."""
         own = list(self.hosts.values())
         if names is not None and len(self.hosts) > MANY:
             own = [self.hosts[name] for name in sorted(names()) if name in self.hosts]

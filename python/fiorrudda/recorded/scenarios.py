@@ -76,7 +76,7 @@ def size_of(entry: Entry) -> int:
 
 
 def length_of(value: Any) -> int:
-    """How long a value is as JSON, but for a few signs."""
+    """How long a value is as JSON, except a few signs."""
     if isinstance(value, str):
         return len(QUOTED(value)) + 2
     if isinstance(value, dict):

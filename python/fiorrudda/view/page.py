@@ -32,7 +32,8 @@ def replaced(page: str, old: str, new: str) -> str:
 
 
 def hash_of(text: str) -> str:
-    return "'sha256-%s'" % base64.b64encode(hashlib.sha256(text.encode("ascii")).digest()).decode("ascii")
+    digest = base64.b64encode(hashlib.sha256(text.encode("ascii")).digest()).decode("ascii")
+    return f"'sha256-{digest}'"
 
 
 def policy(styles: Iterable[str], scripts: Collection[str], more: str = "", also: str = "") -> str:
@@ -55,12 +56,13 @@ def data_of(value: Any) -> str:
 def filled(page: str, styles: dict[str, str], scripts: dict[str, str], more: str = "", also: str = "") -> str:
     """The page with its styles and scripts in it, each a name and its text, and with its policy."""
     told = '<meta charset="utf-8">\n'
-    meta = '<meta http-equiv="Content-Security-Policy" content="%s">\n' % policy(styles.values(), scripts.values(), more, also)
+    allowed = policy(styles.values(), scripts.values(), more, also)
+    meta = f'<meta http-equiv="Content-Security-Policy" content="{allowed}">\n'
     page = replaced(page, told, told + meta)
     for name, style in styles.items():
-        page = replaced(page, '<link rel="stylesheet" href="%s">' % name, f"<style>{style}</style>")
+        page = replaced(page, f'<link rel="stylesheet" href="{name}">', f"<style>{style}</style>")
     for name, script in scripts.items():
-        page = replaced(page, '<script src="%s"></script>' % name, f"<script>{script}</script>")
+        page = replaced(page, f'<script src="{name}"></script>', f"<script>{script}</script>")
     return page
 
 

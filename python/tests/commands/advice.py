@@ -1,11 +1,18 @@
 """Makes the changes that bin/why names, in a scenario, and says how far a fetch has come: commands/check_advice plays
 each change, and asks for progress."""
+from __future__ import annotations
+
 import copy
+from typing import Any, Callable, Iterator, Sequence
 
 from fiorrudda.commands import answers, csp, edits
+from fiorrudda.commands.case import Case
 from fiorrudda.commands.play_text import is_preflight
 from fiorrudda.commands.scenario import origin_of
+from fiorrudda.commands.shapes import Edit
+from fiorrudda.commands.told import Told
 from fiorrudda.commands.urls import secure, without_user_info
+from tests.commands.cases import Data
 
 # The order of a fetch's steps at one URL of its chain: faults of the request, what is looked at before anything is
 # sent, the preflight, the answer. A `p` stands before what fails at the connection of the preflight.
@@ -38,7 +45,7 @@ UNMADE = {
 
 # ---- how far a fetch has come
 
-def step_of(case):
+def step_of(case: Case) -> str:
     """The name of the step at which it ends."""
     result, number = case.result, str(case.result.number)
     if case.is_unloaded and not case.is_mixed_socket:
@@ -52,7 +59,7 @@ def step_of(case):
     return step_of_response(case)
 
 
-def step_of_integrity(case):
+def step_of_integrity(case: Case) -> str:
     way = case.explanation.way
     if way == "integrity/opaqueredirect":
         return "14"
@@ -62,7 +69,7 @@ def step_of_integrity(case):
     return names.get(way.partition("/")[2], "22")
 
 
-def step_of_response(case):
+def step_of_response(case: Case) -> str:
     way = case.explanation.way if case.explanation else ""
     if case.result.type == "opaqueredirect":
         return "14"
@@ -73,14 +80,14 @@ def step_of_response(case):
     return "headers hidden" if way.startswith("seen/") else "read"
 
 
-def rank(case, first=0):
+def rank(case: Case, first: int = 0) -> tuple[int, int]:
     """Where it ended, as a pair that grows: the place of the URL in the chain, and the step there. `first` is the place
     of the first URL in the chain of an earlier play."""
     step = step_of(case)
     return (LAST, ENDS.index(step)) if step in ENDS else (first + len(case.hops) - 1, STEPS.index(step))
 
 
-def places(case, first=0):
+def places(case: Case, first: int = 0) -> dict[str, int]:
     """The place of each URL of the chain, and of the one to which the last answer leads."""
     found = {hop.sent or hop.asked: first + number for number, hop in enumerate(case.hops)}
     if case.is_redirect and case.next_url:
@@ -92,13 +99,13 @@ def places(case, first=0):
 
 # ---- changes
 
-def advised(case):
+def advised(case: Case) -> list[Edit]:
     """All that is named: the explanation's change, what is to be exposed besides, and that of each violated policy."""
     own = [*case.explanation.edits, *case.explanation.exposing] if case.explanation else []
     return own + [edit for policy in case.policies_told for edit in policy.edits if edit not in own]
 
 
-def made(data, case, change):
+def made(data: Data, case: Case, change: Sequence[Edit]) -> Data:
     """The scenario with these edits, for the fetch of the case."""
     data = copy.deepcopy(data)
     for edit in change:
@@ -106,7 +113,7 @@ def made(data, case, change):
     return data
 
 
-def at_request(data, case, edit):
+def at_request(data: Data, case: Case, edit: Edit) -> None:
     command = data
     for word in case.command.path:
         command = command[word]
@@ -116,7 +123,7 @@ def at_request(data, case, edit):
         command[edit["set"]] = edit["value"]
 
 
-def at_page(data, case, edit):
+def at_page(data: Data, case: Case, edit: Edit) -> None:
     document = data["documents"][case.fetch.document.number]
     if "add" in edit:
         document.setdefault("headers", []).append([edit["add"], edit["value"]])
@@ -129,11 +136,11 @@ def at_page(data, case, edit):
         text, edit["set"], edit["value"], edit.get("replaces")) if number == edit["policy"] else text)
 
 
-def join_policies(document, first, count):
+def join_policies(document: Data, first: int, count: int) -> None:
     """Puts semicolons in the place of so many commas behind a policy."""
     number = 0
     for header in document.get("headers", []):
-        parts = []
+        parts: list[str] = []
         for part in header[1].split(",") if header[0].lower() in csp.HEADERS else []:
             is_joined = csp.directives(part) and first < number <= first + count
             number += bool(csp.directives(part))
@@ -141,7 +148,7 @@ def join_policies(document, first, count):
         header[1] = ",".join(parts) if parts else header[1]
 
 
-def change_policies(document, change):
+def change_policies(document: Data, change: Callable[[int, str], str]) -> None:
     """Puts `change(number, text)` in the place of each policy of a document."""
     number = 0
     for header in document.get("headers", []):
@@ -153,7 +160,7 @@ def change_policies(document, change):
         header[1] = ",".join(parts) if parts else header[1]
 
 
-def made_whole(data, told):
+def made_whole(data: Data, told: Told) -> Data:
     """The scenario with all that the lines `in all` say of policies, and nothing else."""
     cases = {(case.fetch.document.number, case.fetch.name): case for case in told.cases}
     for number, own in told.whole_policies.items():
@@ -169,7 +176,7 @@ def made_whole(data, told):
     return data
 
 
-def at_scenario(data, case, edit):
+def at_scenario(data: Data, case: Case, edit: Edit) -> None:
     if "add" in edit:
         data.setdefault("servers", []).append(edit["value"])
     else:
@@ -177,7 +184,7 @@ def at_scenario(data, case, edit):
         data[edit["set"]] = edit["value"]
 
 
-def at_answer(data, case, edit):
+def at_answer(data: Data, case: Case, edit: Edit) -> None:
     """The rule for this request alone, with the change; it comes first, and others are answered as before."""
     origin = origin_of(edit["url"])
     server = next((one for one in data.setdefault("servers", []) if one["origin"] == origin), None)
@@ -189,7 +196,7 @@ def at_answer(data, case, edit):
     server["rules"] = [changed(rule, edit)] + [one for one in server["rules"] if one is not rule]
 
 
-def rule_of(rules, method, target):
+def rule_of(rules: list[Data], method: str, target: str) -> Data:
     """The rule for one request alone, which answers it as the rules do."""
     fitting = [one for one in rules if one.get("method", method) == method and one.get("path", target) == target]
     rule = fitting[0] if fitting else {"status": 404}
@@ -198,7 +205,7 @@ def rule_of(rules, method, target):
     return {**copy.deepcopy(rule), "method": method, "path": target}
 
 
-def changed(rule, edit):
+def changed(rule: Data, edit: Edit) -> Data:
     if edit.get("set") == "head":
         return {key: rule[key] for key in ("method", "path")} | {"raw": edit["value"]}
     rule = spelled(rule)
@@ -209,7 +216,7 @@ def changed(rule, edit):
     return {**rule, "headers": left + ([[name, edit["value"]]] if "set" in edit else [])}
 
 
-def spelled(rule):
+def spelled(rule: Data) -> Data:
     """A rule of bytes as one of a status, headers and a body."""
     if "raw" not in rule:
         return rule
@@ -222,7 +229,7 @@ def spelled(rule):
 MAKERS = {"request": at_request, "page": at_page, "scenario": at_scenario, "answer": at_answer, "preflight": at_answer}
 
 
-def names_of(change, url):
+def names_of(change: Sequence[Edit], url: str) -> Iterator[tuple[Any, str, str]]:
     """What is named in a change, so that nothing is named twice: headers by their answer, directives by the URL."""
     for edit in change:
         if edit["at"] in ("answer", "preflight"):
@@ -231,13 +238,13 @@ def names_of(change, url):
             yield (edit["policy"], edit["set"], url)
 
 
-def sentences(case):
+def sentences(case: Case) -> str:
     """All that is said of a case, as one text."""
     lines = case.explanation.lines() if case.explanation else []
     return "\n".join([*lines, *(line for policy in case.policies_told for line in policy.lines())])
 
 
-def unsaid(case):
+def unsaid(case: Case) -> list[str]:
     """Edits of headers and policies that are data alone, and stand in no line."""
     text = sentences(case)
     own = [*case.explanation.edits, *case.explanation.exposing] if case.explanation else []

@@ -1,9 +1,14 @@
 """Scenarios whose advice commands/check_advice follows to the end, beside those of cases.py: mistakes that stand
 together, what a server sends already, chains of redirects, and policies as people write them."""
-from tests.commands.cases import (API, DIGEST, INCLUDE, NAMED, OK, PAGE, POLICY, PUT, SECRET, TRUE, allow, answered,
-                                  fetch, load, policed, raw, rule, scenario)
+from __future__ import annotations
 
-JSON = {"method": "PUT", "headers": [["Content-Type", "application/json"], ["Authorization", "Bearer a"]], "body": "{}"}
+from typing import Any, Iterator, Union
+
+from tests.commands.cases import (API, DIGEST, INCLUDE, NAMED, OK, PAGE, POLICY, PUT, SECRET, TRUE, Data, Header, allow,
+                                  answered, fetch, load, policed, raw, rule, scenario)
+
+JSON: Data = {"method": "PUT", "headers": [["Content-Type", "application/json"], ["Authorization", "Bearer a"]],
+              "body": "{}"}
 ALLOW = "Access-Control-Allow-"
 STAR = [ALLOW + "Origin", "*"]
 OTHER = [ALLOW + "Origin", "https://other.test"]
@@ -11,44 +16,44 @@ REPORT = POLICY + "-Report-Only"
 CDN = "https://cdn.test"
 IMAGES = "https://img.test"
 SCRIPT = "sha256-" + DIGEST["sha256"]
-KNOWN = {"hsts": [{"host": "shop.test", "subdomains": False, "until": 10}], "page": "http://shop.test/"}
+KNOWN: Data = {"hsts": [{"host": "shop.test", "subdomains": False, "until": 10}], "page": "http://shop.test/"}
 UPGRADE = "; upgrade-insecure-requests"
 OWN = ["Cross-Origin-Resource-Policy", "same-origin"]
 
 
-def methods(value):
+def methods(value: str) -> Header:
     return [ALLOW + "Methods", value]
 
 
-def names(value):
+def names(value: str) -> Header:
     return [ALLOW + "Headers", value]
 
 
-def exposed(value):
+def exposed(value: str) -> Header:
     return ["Access-Control-Expose-Headers", value]
 
 
-def asked(status, *headers, **more):
+def asked(status: int, *headers: Header, **more: Any) -> Data:
     """A rule for OPTIONS."""
     return rule(status, headers, method="OPTIONS", **more)
 
 
-def led(location, status=302, *headers, **more):
+def led(location: str, status: int = 302, *headers: Header, **more: Any) -> Data:
     """A rule that redirects."""
     return rule(status, [["Location", location], *headers], **more)
 
 
-def at(origin, *rules):
+def at(origin: str, *rules: Data) -> Data:
     """The servers of a scenario that has one more."""
     return {"servers": [{"origin": origin, "rules": list(rules)}]}
 
 
-def reported(policy, command, **more):
+def reported(policy: str, command: Data, **more: Any) -> Data:
     """A command of a page with this policy, which only reports."""
     return scenario(command, headers=[[REPORT, policy]], **more)
 
 
-def script(**more):
+def script(**more: Any) -> Data:
     return load("script", **more)
 
 
@@ -269,7 +274,7 @@ UNDER = "http://www.shop.test"
 WWW = "https://www.shop.test"
 
 
-def forgotten(commands, page):
+def forgotten(commands: Union[Data, list[Data]], page: str) -> Data:
     """Behind an answer by which www.shop.test, known beside the host above it, is forgotten."""
     commands = commands if isinstance(commands, list) else [commands]
     wide = [{"host": host, "subdomains": True, "until": 10} for host in ("shop.test", "www.shop.test")]
@@ -278,7 +283,7 @@ def forgotten(commands, page):
     return scenario([load("image", WWW + "/off"), *commands], rules, WWW, page=page, hsts=wide)
 
 
-def beside_own(*urls):
+def beside_own(*urls: str) -> Data:
     """Mixed content, and what is asked of this machine. One that is over https is a server alone."""
     asked = [fetch(url) for url in urls if url.startswith("http:")]
     return scenario([*asked, fetch("http://api.test/x")], [rule(200, [STAR])], "http://localhost:3000", servers=[
@@ -286,7 +291,7 @@ def beside_own(*urls):
         if origin.count("/") == 2])
 
 
-def noted(origin, *fields):
+def noted(origin: str, *fields: str) -> Data:
     """An http URL of this origin, behind an answer of https://shop.test with these fields."""
     return scenario(
         [load("image", PAGE + "/i.png"), fetch(origin + "/x")],
@@ -581,7 +586,7 @@ SLIPS = [
 ]
 
 
-def scripted():
+def scripted() -> Iterator[tuple[str, Data]]:
     """Each by its name."""
     for group in (PREFLIGHTS, CORS, CHAINS, LED_ON, POLICIES, HOSTS, OTHERS):
         yield from group.items()

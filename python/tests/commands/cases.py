@@ -59,7 +59,7 @@ POLICY = "Content-Security-Policy"
 JUMP = [rule(302, [["Location", "https://cdn.test/y"]])]
 
 
-def policed(policy: str, command: Data | None = None, **more: Any) -> Data:
+def policed(policy: str, command: Data | list[Data] | None = None, **more: Any) -> Data:
     """A command of a page with this policy."""
     return scenario(command or fetch(), headers=[[POLICY, policy]], **more)
 

@@ -15,55 +15,64 @@
   hides.
 
 It needs python3 (3.9 or later). Plays are made by bin/fetchplay, or by the program that FETCHPLAY names."""
+from __future__ import annotations
+
 import concurrent.futures
 import glob
 import json
 import os
 import re
+from typing import Any, Callable, Iterable, Iterator, Optional
 from urllib.parse import urlsplit
 
-from fiorrudda.commands import (asking, csp, edits, expectations, explanations, guards, json_text, lints, results,
-                                running, verdicts)
-from fiorrudda.commands.case import Violation
+from fiorrudda.commands import (asking, changes, csp, edits, expectations, explanations, guards, json_text, lints,
+                                results, running, verdicts)
+from fiorrudda.commands.case import Case, Violation
+from fiorrudda.commands.explanations import Explanation
 from fiorrudda.commands.needs import TOKEN, items_of, unseen
 from fiorrudda.commands.scenario import Scenario, origin_of
+from fiorrudda.commands.shapes import Edit
+from fiorrudda.commands.told import Told
 from fiorrudda.commands.urls import is_trustworthy
 from fiorrudda.places import ROOT
 from tests import base
 from tests.commands import advice, advice_cases, cases, lint_cases
+from tests.commands.cases import Data
 
 JOBS = 4
 ROUNDS = 6
-LISTS = {"access-control-allow-methods": str, "access-control-allow-headers": str.lower,
-         "access-control-expose-headers": str.lower}
+LISTS: dict[str, Callable[[str], str]] = {
+    "access-control-allow-methods": str, "access-control-allow-headers": str.lower,
+    "access-control-expose-headers": str.lower}
 CORS_WAYS = {way.name for way in explanations.CORS_CHECK + explanations.PREFLIGHTS}
 # What is not taken out, since nothing else stands in the policy.
 LEFT = {"browsers/corpus/upgrades/insecure-requests-report-only.json": ["csp/report-only-ignores"]}
 
 
-def setUpModule():
+def setUpModule() -> None:
     """Builds the program where it must be, and then calls it without what looks whether it is new."""
     if "FETCHPLAY" not in os.environ:
         running.played(b'{"format":1,"documents":[]}')
         os.environ["FETCHPLAY"] = os.path.join(ROOT, "crates", "fetchplay", "out", "fetchplay")
 
 
-def told_of(data):
+def told_of(data: Data) -> Told:
     return asking.played(json.dumps(data).encode("utf-8"))[2]
 
 
-def case_of(data, which=None):
+def case_of(data: Data, which: Optional[str] = None) -> Case:
     return next(one for one in told_of(data).cases if which in (None, one.fetch.name))
 
 
-def side_by_side(work, rows):
+def side_by_side(work: Callable[..., Any], rows: Iterable[tuple[Any, ...]]) -> list[Any]:
     with concurrent.futures.ThreadPoolExecutor(JOBS) as pool:
-        return list(pool.map(lambda row: work(*row), rows))
+        found: Iterator[Any] = pool.map(lambda row: work(*row), rows)
+        return list(found)
 
 
 # ---- advice
 
-def scenarios():
+def scenarios() -> Iterator[tuple[str, Data, Optional[str]]]:
     """Each by its name, with the name of the fetch that it is about."""
     for name, text, which in cases.scripted():
         yield name, json.loads(text), which
@@ -71,11 +80,11 @@ def scenarios():
         yield name, data, None
 
 
-def way_of(case):
+def way_of(case: Case) -> str:
     return case.explanation.way if case.explanation else case.result.short()
 
 
-def edits_of(answer):
+def edits_of(answer: dict[str, Any]) -> list[Edit]:
     """All that one answer needs."""
     is_asked = answer["method"] == "OPTIONS"
     status = [edits.preflight(answer["url"], "status", 204)] if is_asked else []
@@ -83,7 +92,7 @@ def edits_of(answer):
                      edits.answer(answer["method"], answer["url"], *pair) for pair in answer["headers"].items()]
 
 
-def leads_on(why, after):
+def leads_on(why: Explanation, after: Case) -> bool:
     """Whether the lines say what else stands in the way of the next URL, or the last answer leads to a login or back:
     what follows is then not said."""
     others = [line for line in why.in_all if not line.startswith(("the answer to ", "where the script "))]
@@ -91,27 +100,27 @@ def leads_on(why, after):
     return others != [] or ", which redirects (" in last and len(after.chain) > 0
 
 
-def lints_of(told):
+def lints_of(told: Told) -> set[str]:
     """The names of the lints of the policies of a play, without those of what a play does not look at."""
     found = [one.lint for _, one in lints.in_scenario(told.scenario)]
     return {lint.name for lint in found if lint.name.startswith("csp/") and not lint.is_note}
 
 
-def values_of(request, name):
+def values_of(request: Any, name: str) -> list[str]:
     return [value for own, value in request.headers if own.lower() == name.lower()]
 
 
-def lints_in(data):
+def lints_in(data: Data) -> set[str]:
     return {finding.lint.name for _, finding in lints.in_scenario(Scenario(json_text.read(json.dumps(data))))}
 
 
-def gallery():
+def gallery() -> Iterator[tuple[str, Data]]:
     for path in sorted(glob.glob(os.path.join(ROOT, "gallery", "*", "scenario.json"))):
         with open(path, encoding="utf-8") as file:
             yield os.path.relpath(path, ROOT), json.load(file)
 
 
-def stored():
+def stored() -> Iterator[tuple[str, Data]]:
     """The scenarios of the gallery and of browsers/corpus that have policies."""
     for path in sorted([*glob.glob(os.path.join(ROOT, "gallery", "*", "scenario.json")),
                         *glob.glob(os.path.join(ROOT, "browsers", "corpus", "*", "*.json"))]):
@@ -121,7 +130,7 @@ def stored():
             yield os.path.relpath(path, ROOT), data
 
 
-def slips():
+def slips() -> Iterator[tuple[str, Data]]:
     """Each policy that a lint has a case for, on a page that loads something of each kind."""
     for name, pair in lint_cases.CASES.items():
         for data in pair if name.startswith("csp/") and "not-played" not in name else []:
@@ -130,9 +139,11 @@ def slips():
 
 
 class Checks(base.Checks):
-    def follow(self, name, data, which):
+    def follow(self, name: str, data: Data, which: Optional[str]) -> int:
         """Makes what is advised, again and again, and looks at each step. The number of changes that were played."""
-        named, known, played = set(), {}, 0
+        named: set[Any] = set()
+        known: dict[str, int] = {}
+        played = 0
         for number in range(ROUNDS):
             case = case_of(data, which)
             told = f"{name}, round {number + 1} ({way_of(case)})"
@@ -150,12 +161,12 @@ class Checks(base.Checks):
         self.fault(f"{name}: the advice does not end: {way_of(case)}")
         return played
 
-    def check_end(self, name, case):
+    def check_end(self, name: str, case: Case) -> None:
         """An answer that is read, no verdict, or a way for which there is no change."""
         is_good = case.verdict == "read" and (case.explanation is None or way_of(case) in advice.UNMADE)
         self.compare(name + ": the end", is_good or case.verdict == "none" or way_of(case) in advice.UNMADE, True)
 
-    def check_changes(self, name, data, case, which, known):
+    def check_changes(self, name: str, data: Data, case: Case, which: Optional[str], known: dict[str, int]) -> int:
         """Each change of the explanation helps, together with those of the other policies, and each of a policy."""
         policies = [edit for policy in case.policies_told for edit in policy.edits]
         before = advice.rank(case, known.get(case.hops[0].asked, 0))
@@ -171,7 +182,7 @@ class Checks(base.Checks):
             self.compare(told, policy.policy in left, False)
         return len(changes) + len(case.policies_told)
 
-    def check_alone(self, name, data, case, which, known):
+    def check_alone(self, name: str, data: Data, case: Case, which: Optional[str], known: dict[str, int]) -> None:
         """What is named after an `or` comes as far as all changes of the answers together."""
         why = case.explanation
         if why is None or not why.others or why.way not in CORS_WAYS:
@@ -180,7 +191,7 @@ class Checks(base.Checks):
             case_of(advice.made(data, case, change), which) for change in [why.edits + why.exposing, *why.others])]
         self.compare(f"{name}: what would not do alone: {why.others}", [one for one in ranks if one < ranks[0]], [])
 
-    def check_first_screen(self, name, data, which=None):
+    def check_first_screen(self, name: str, data: Data, which: Optional[str] = None) -> bool:
         """Where the lines `in all` stand, an answer that has all of them is read, with all headers that were missed."""
         case = case_of(data, which)
         why = case.explanation
@@ -195,7 +206,7 @@ class Checks(base.Checks):
         self.compare(told, is_there or leads_on(why, after), True)
         return True
 
-    def check_words(self, name, case):
+    def check_words(self, name: str, case: Case) -> None:
         """What is said is what the data say, what is there is kept, and nothing of http is said to a page of https."""
         self.compare(name + ": data that are not said", advice.unsaid(case), [])
         others = case.explanation.others if case.explanation else []
@@ -210,7 +221,7 @@ class Checks(base.Checks):
             if edit["at"] in ("answer", "preflight") and str(edit.get("set")).lower() in LISTS:
                 self.check_list(name, case, edit)
 
-    def check_kept(self, name, policy, edit, words):
+    def check_kept(self, name: str, policy: dict[str, list[str]], edit: Edit, words: list[str]) -> None:
         """The words of a directive, mended, or of default-src where it is new: all but 'none', those that the change
         rewrites, and those of scripts where it is of none. default-src is mended at most."""
         own = policy.get(edit["set"], policy.get("default-src", []))
@@ -222,7 +233,7 @@ class Checks(base.Checks):
         is_wider = edit["set"] == "default-src" and words != own
         self.compare(f"{name}: default-src is not made wider", is_wider, False)
 
-    def check_list(self, name, case, edit):
+    def check_list(self, name: str, case: Case, edit: Edit) -> None:
         fold = LISTS[edit["set"].lower()]
         items = [fold(item) for item in items_of(edit["value"])]
         head = case.own_head if edit["at"] == "answer" else case.head
@@ -234,7 +245,7 @@ class Checks(base.Checks):
         self.compare(f"{name}: {edit}: a star, and credentials", bool(gone & set(items)), False)
         self.compare(f"{name}: {edit}: blanks alone", edit["value"] == ", ".join(items_of(edit.get("replaces"))), False)
 
-    def check_whole(self, name, data):
+    def check_whole(self, name: str, data: Data) -> Told:
         """What the lines `in all` say, alone: then no policy is violated, and nothing of the policies that a lint has told
         and whose right text is known is told again."""
         told = told_of(data)
@@ -245,7 +256,7 @@ class Checks(base.Checks):
         self.compare(f"{name}: what is warned of still", sorted(left), LEFT.get(name, []))
         return after
 
-    def test_wholes(self):
+    def test_wholes(self) -> None:
         """The policies with all changes are minimal, and said at the end, once each."""
         for name, (data, wanted) in advice_cases.WHOLE.items():
             said = asking.Said(json.dumps(data).encode("utf-8"), False, 20)
@@ -265,7 +276,7 @@ class Checks(base.Checks):
         several = [one.policy for one in told.whole_policies[0] if one.is_told]
         self.compare("which policies have several changes", several, [0, 2])
 
-    def check_let_in(self):
+    def check_let_in(self) -> None:
         """A policy with all its changes names what it lets in anew: a host of it may be an attacker's."""
         wanted = "; leave out what the page does not mean to load"
         rows = [
@@ -280,16 +291,16 @@ class Checks(base.Checks):
             line = verdicts.policies_in_all(told_of(cases.scenario(script, headers=[[cases.POLICY, policy]])))[0]
             self.compare(f"what a policy lets in anew: {line}", line.partition("`")[2].partition("`")[2], end)
 
-    def test_unmade(self):
+    def test_unmade(self) -> None:
         """Each way has a change, or a reason why none is named."""
-        made = {way.name for way in explanations.TABLE if way.changes is not explanations.changes.nothing}
+        made = {way.name for way in explanations.TABLE if way.changes is not changes.nothing}
         ways = {way.name for way in explanations.TABLE}
         self.compare("ways without a change and without a reason", sorted(ways - made - set(advice.UNMADE)), [])
         self.compare("ways with a change and a reason", sorted(set(advice.UNMADE) & made), [])
 
     # ---- what is said of some cases
 
-    def test_sentences(self):
+    def test_sentences(self) -> None:
         """Parts of what is said of a case, and parts that are not."""
         groups = {name: data for name, data, _ in scenarios()}
         rows = [
@@ -596,7 +607,7 @@ class Checks(base.Checks):
             self.compare(f"{name}: {part} in {text}", part in text, True)
             self.compare(f"{name}: {other} not in {text}", other is not None and other in text, False)
 
-    def test_targets(self):
+    def test_targets(self) -> None:
         """The page asks first for where a preflight is led, where that is likely the same resource; else OPTIONS is to be
         answered, and of a login nothing is asked for."""
         asked = "http://api.test/orders/7?a=1"
@@ -619,7 +630,7 @@ class Checks(base.Checks):
         self.check_target("http://auth.test/session/7", "/session/7/", "itself", "differs by a slash")
         self.check_target("http://auth.test/session/7", "/session/8", "else", "look for a login, or what")
 
-    def check_target(self, asked, location, wanted, part):
+    def check_target(self, asked: str, location: str, wanted: Any, part: str) -> None:
         urls = [asked] + ([location] if "://" in location else [])
         servers = [{"origin": one, "rules": [advice_cases.led(location, method="OPTIONS", path=urlsplit(asked)._replace(
             scheme="", netloc="").geturl()), cases.rule()]} for one in dict.fromkeys(map(origin_of, urls))]
@@ -631,7 +642,7 @@ class Checks(base.Checks):
         self.compare(f"{asked}, led to {location}: {text}", (told, part in text), (wanted, True))
         self.compare(f"{text}: the redirect's URL is asked for", "ask for h" in text, wanted != "login")
 
-    def test_slips(self):
+    def test_slips(self) -> None:
         """A change of a policy with a slip mends that too: nothing is warned of where it is made, and --brief says it."""
         for text, command, wanted, part in advice_cases.SLIPS:
             data = cases.policed(text, command)
@@ -642,7 +653,7 @@ class Checks(base.Checks):
             line = verdicts.brief(told)[0]
             self.compare(f"{text}: {part} in {line}", part in line, True)
 
-    def test_once(self):
+    def test_once(self) -> None:
         """What is advised is said so, and an answer is read when it is followed once."""
         for name, (data, part) in advice_cases.ONCE.items():
             case = case_of(data)
@@ -655,16 +666,16 @@ class Checks(base.Checks):
         says = "; in a browser http://127.0.0.1:8080/x may stay http" in verdicts.brief(own)[0]
         self.compare(f"--brief, of an own address that is upgraded: {verdicts.brief(own)}", says, True)
 
-    def test_lengths(self):
+    def test_lengths(self) -> None:
         """A directive is told whole, also one that is replaced, and of a long value that is replaced the beginning."""
         words = " ".join(f"https://a{number}.test" for number in range(100))
         self.compare("a long directive", edits.shortened(words), words)
         told = edits.phrase([edits.policy(0, "img-src", ["*"], before="img-scr " + words)])
-        self.compare("a long directive that is replaced", told, "let policy 0 say `img-src *` in place of `img-scr %s`" % words)
+        self.compare("a long directive that is replaced", told, f"let policy 0 say `img-src *` in place of `img-scr {words}`")
         told = edits.told({"set": "Vary", "value": "Origin", "replaces": "x" * 100})
         self.compare("a long value that is replaced", told, f"`Vary: Origin` in place of `{'x' * 80}..`")
 
-    def test_notes(self):
+    def test_notes(self) -> None:
         """What a script may not set, and what is sent in its place."""
         rows = [
             ("Cookie", "a=1", "cors", "the cookies that it keeps"),
@@ -693,7 +704,7 @@ class Checks(base.Checks):
             self.compare(f"{name}: {value} in mode {mode} is kept", bool(kept), is_sent)
             self.compare(f"{name}: {value} asks for a preflight", guards.unsafe_names(kept), [asked] if asked else [])
 
-    def test_local_networks(self):
+    def test_local_networks(self) -> None:
         """A public page's first request to this machine or a local network is told (Local Network Access, section 2)."""
         rows = [
             ("https://shop.test/", "http://127.0.0.1:8000/x", "127.0.0.1"), ("https://shop.test/", "http://localhost/x", "localhost"),
@@ -709,14 +720,14 @@ class Checks(base.Checks):
             says = [f"{host} is this machine or of a local network: " in note for note in notes]
             self.compare(f"{page} asks {url}: {notes}", says, [True] if host else [])
 
-    def test_many_notes(self):
+    def test_many_notes(self) -> None:
         """Headers that are dropped stand in one note, by their reasons, and credentials come first."""
         headers = [[name, "1"] for name in ("Sec-A", "Origin", "Sec-B", "Cookie")]
         notes = case_of(cases.scenario(cases.fetch(headers=headers), [cases.rule(200, [cases.OK])])).notes
         form = r"dropped, [^`]*: `Cookie` \(.*\); `Sec-A`, `Sec-B` \(.*\); `Origin` \(.*\)"
         self.compare(f"four headers that are dropped: {notes}", [bool(re.fullmatch(form, note)) for note in notes], [True])
 
-    def test_verdicts(self):
+    def test_verdicts(self) -> None:
         rows = [("a WebSocket that is upgraded", "none"), ("a WebSocket of an http page that is upgraded", "none"),
                 ("a WebSocket that is upgraded, and refused", "refused"), ("no-verdict/data", "refused"),
                 ("a data URL that nothing hinders", "none"), ("no-verdict/coded", "none"),
@@ -741,7 +752,7 @@ class Checks(base.Checks):
 
     # ---- what is computed here, and by the engine
 
-    def check_exposed(self, path, data):
+    def check_exposed(self, path: str, data: Data) -> None:
         """needs.py and the engine say the same of the headers that a script sees of another origin."""
         for case in told_of(data).cases:
             if case.result.type == "cors":
@@ -750,14 +761,14 @@ class Checks(base.Checks):
                 self.compare(f"{path}: {case.fetch.name}: the headers that are seen",
                              [name for name, _ in case.result.headers], [one for one in names if one not in hidden])
 
-    def test_test_asks(self):
+    def test_test_asks(self) -> None:
         """What a test wants the script to see is among what is to be exposed."""
         data = cases.scenario(cases.fetch(**cases.PUT), [cases.rule(404)])
         told = list(expectations.differences({"fetch 0": {"result": "read", "sees": {"X-Total": "4"}}}, told_of(data), []))
         is_said = any("`Access-Control-Expose-Headers: X-Total`" in line for line in told)
         self.compare(f"a header that a test wants: {told}", is_said, True)
 
-    def test_vary(self):
+    def test_vary(self) -> None:
         """Where the lint wants `Vary: Origin` the change that is named has it, and else it has not."""
         groups = dict(advice_cases.scripted())
         for name, data, wanted in [("two pages", groups["two pages that ask"], True),
@@ -770,7 +781,7 @@ class Checks(base.Checks):
                          [set(), {"cors/vary-missing"} if wanted else set()])
             self.compare(f"Vary, of {name}: is named", after != without, wanted)
 
-    def test_matcher(self):
+    def test_matcher(self) -> None:
         """By CSP 3, of URLs that this engine does not load: those of WebSockets are asked for over http or https."""
         page = "https://shop.test/"
         rows = [
@@ -789,7 +800,7 @@ class Checks(base.Checks):
             asked = csp.Asked(url, page, "fetch", "", "", True, False)
             self.compare(f"{word} matches {url}", csp.passes([word], asked), wanted)
 
-    def check_against_engine(self, path, data):
+    def check_against_engine(self, path: str, data: Data) -> int:
         """csp.py and the engine say the same of each enforced policy, for each fetch of one URL."""
         count = 0
         for case in told_of(data).cases:
@@ -805,24 +816,24 @@ class Checks(base.Checks):
                     count += 1
         return count
 
-    def test_advice_to_its_end(self):
+    def test_advice_to_its_end(self) -> None:
         played = side_by_side(self.follow, scenarios())
         self.counted(f"{len(played)} scenarios, whose advice was followed to its end; {sum(played)} changes, each of which "
                      "helped")
 
-    def test_first_screens(self):
+    def test_first_screens(self) -> None:
         side_by_side(self.check_first_screen, scenarios())
 
-    def test_whole_policies(self):
+    def test_whole_policies(self) -> None:
         side_by_side(self.check_whole, [*stored(), *((name, data) for name, data, _ in scenarios()), *slips()])
 
-    def test_exposed(self):
+    def test_exposed(self) -> None:
         side_by_side(self.check_exposed, [*gallery(), *((name, data) for name, data, _ in scenarios())])
 
-    def test_against_the_engine(self):
+    def test_against_the_engine(self) -> None:
         matched = side_by_side(self.check_against_engine, [*stored(), *((name, data) for name, data, _ in scenarios())])
         self.counted(f"{sum(matched)} policies of which csp.py and the engine say the same")
 
 
-def main():
+def main() -> int:
     return base.main("commands/check_advice", __name__)

@@ -11,6 +11,9 @@
 
 It needs python3 (3.9 or later), the openssl command, bin/fetchplay, and the library that FIORRUDDA_LIBRARY names or bin/lib
 has left in out/."""
+from __future__ import annotations
+
+import argparse
 import base64
 import contextlib
 import hashlib
@@ -25,28 +28,35 @@ import sys
 import tempfile
 import time
 import zlib
+from typing import Any, Callable, Iterator, Optional, Union
 from unittest import mock
 
 import _ctypes
 
-from fiorrudda.commands import answers, ask_words, asked, codings, json_text, live, node_brotli, replies, running
+from fiorrudda.commands import (answers, ask_words, asked, codings, json_text, live, node_brotli, replies, running,
+                                told as telling)
 from fiorrudda.commands.scenario import Scenario
+from fiorrudda.commands.shapes import Places
 from fiorrudda.places import ROOT
 from tests import base, sockets
 from tests.commands import cases, loopback, pipes
+from tests.commands.cases import Data
+from tests.commands.loopback import Said
 
+Pair = tuple[str, str]  # the files of a certificate and of its key
+Answering = Callable[[loopback.Request], Said]
 HOSTS = ["api.test", "cdn.test", "shop.test", "img.shop.test", "h.test"]
 # what only a scripted server does, or no words ask for: a User-Agent is left out, as it comes with copied words
 NOT_ASKED = {"cors/no-rule", "seen/no-rule", "head/no-server", "head/host-as-path", "head/tls", "preflight/user-agent"}
 KEYS = {"method", "headers", "body", "mode", "credentials", "redirect", "integrity", "url"}
 
 
-def places(servers):
+def places(servers: loopback.Servers) -> Places:
     """Each host is at these servers, at its ports."""
     return {(host, port): ("127.0.0.1", servers.port) for host in HOSTS for port in (80, 443, 8443)}
 
 
-def given(url, data=None, **more):
+def given(url: str, data: Optional[str] = None, **more: Any) -> argparse.Namespace:
     """The words of bin/ask."""
     plain = ask_words.read("bin/ask", [url, "--timeout", "60"])
     if data is not None:
@@ -56,11 +66,11 @@ def given(url, data=None, **more):
     return plain
 
 
-def asked_of(url, **more):
+def asked_of(url: str, **more: Any) -> asked.Answered:
     return asked.answered(given(url, **more), url)
 
 
-def words_of(data):
+def words_of(data: Data) -> Optional[dict[str, Any]]:
     """The words that ask for what a scenario fetches; None where none do."""
     document = data["documents"][0]
     script = document["script"]
@@ -81,12 +91,12 @@ def words_of(data):
                 **{key: options.get(key) for key in ("mode", "credentials", "redirect", "integrity")})
 
 
-def way_of(answered):
+def way_of(answered: asked.Answered) -> str:
     case = answered.told.cases[-1]
     return case.explanation.way if case.explanation else case.result.short()
 
 
-def plain(request):
+def plain(request: loopback.Request) -> bytes:
     return b"HTTP/1.1 200 OK\r\nAccess-Control-Allow-Origin: *\r\nContent-Length: 2\r\n\r\nhi"
 
 
@@ -101,7 +111,7 @@ TLS_PORTS = {
 }
 
 
-def answered_by(answer, pair, url, is_endless=False, **more):
+def answered_by(answer: Answering, pair: Pair, url: str, is_endless: bool = False, **more: Any) -> asked.Answered:
     """What comes of a fetch of servers that answer so. For an answer that never ends few seconds are enough, and more
     where they were over before it came."""
     for limit in (2, 30) if is_endless else (60,):
@@ -112,7 +122,7 @@ def answered_by(answer, pair, url, is_endless=False, **more):
     return answered
 
 
-def is_endless(said):
+def is_endless(said: Said) -> bool:
     return "hang" in (said if isinstance(said, tuple) else [said])
 
 
@@ -181,11 +191,11 @@ FIRST_WORDS = [
 ]
 
 
-def ran(*words, **more):
+def ran(*words: str, **more: Any) -> subprocess.CompletedProcess[bytes]:
     return subprocess.run([os.path.join(ROOT, "bin", "ask"), *words], stdout=subprocess.PIPE, stderr=subprocess.PIPE, **more)
 
 
-def allowed(request):
+def allowed(request: loopback.Request) -> bytes:
     """What lets a PUT of JSON with a cookie pass."""
     both = "Access-Control-Allow-Origin: https://app.example\r\nAccess-Control-Allow-Credentials: true\r\n"
     if request.method == "OPTIONS":
@@ -200,24 +210,24 @@ def allowed(request):
 TEXT = b'{"rows": [%s]}' % b", ".join(b"%d" % number for number in range(400))
 
 
-def packed(data, bits, copies=1):
+def packed(data: bytes, bits: int, copies: int = 1) -> bytes:
     """By zlib: `bits` are 31 for gzip, 15 for deflate, -15 for deflate without its head."""
     machine = zlib.compressobj(wbits=bits)
     return b"".join(machine.compress(data) for _ in range(copies)) + machine.flush()
 
 
-def coded(coding, data, *more, framing=None):
+def coded(coding: bytes, data: bytes, *more: bytes, framing: Optional[list[bytes]] = None) -> bytes:
     """An answer of this coding; its framing is Content-Length where none is named."""
     lines = [b"HTTP/1.1 200 OK", b"Access-Control-Allow-Origin: *", b"Content-Encoding: " + coding, *more]
     lines += [b"Content-Length: %d" % len(data)] if framing is None else framing
     return b"\r\n".join([*lines, b"", b""]) + data
 
 
-def in_chunks(data):
+def in_chunks(data: bytes) -> bytes:
     return b"".join(b"%x\r\n%b\r\n" % (len(data[at:at + 7]), data[at:at + 7]) for at in range(0, len(data), 7)) + b"0\r\n\r\n"
 
 
-def whole_bodies():
+def whole_bodies() -> dict[str, bytes]:
     """Answers whose body is TEXT, by their names."""
     gzip = packed(TEXT, 31)
     rows = {
@@ -239,33 +249,37 @@ def whole_bodies():
     return rows
 
 
-def stored(data):
+def stored(data: bytes) -> bytes:
     """A br stream (RFC 7932, section 9.2): a window of 16 bits, a meta-block that is not compressed, and the last, empty
     one."""
     return (len(data) - 1 << 4 | 1 << 20).to_bytes(3, "little") + data + b"\x03"
 
 
 @contextlib.contextmanager
-def without_br():
+def without_br() -> Iterator[None]:
     with mock.patch.object(codings, "brotli", None), mock.patch.object(node_brotli, "program", lambda: None):
         yield
 
 
-def told_of(answer, **more):
+def always(said: Said) -> Answering:
+    return lambda request: said
+
+
+def told_of(answer: Union[Said, Answering], **more: Any) -> tuple[int, Any, str, str]:
     """What comes of a fetch of an answer: its status, what the page reads, the way, and all that is said."""
-    answered = answered_by(answer if callable(answer) else lambda request: answer, None, "http://api.test/x",
+    answered = answered_by(answer if callable(answer) else always(answer), None, "http://api.test/x",
                            page="http://shop.test/", **more)
     case = answered.told.cases[-1]
     lines = case.explanation.lines() if case.explanation else []
     return answered.status(), case.result.body, way_of(answered), "\n".join([answered.verdict[1], *lines, *answered.notes()])
 
 
-def flipped(data, at):
+def flipped(data: bytes, at: int) -> bytes:
     """With another byte at a place from the end."""
     return data[:-at] + bytes([data[-at] ^ 255]) + data[len(data) - at + 1:]
 
 
-def with_type(answer, kind):
+def with_type(answer: Said, kind: str) -> Any:
     """The same answer, with a type that a load of this kind takes."""
     if isinstance(answer, tuple):
         return (with_type(answer[0], kind), *answer[1:])
@@ -278,11 +292,11 @@ def with_type(answer, kind):
 LONG = 60  # seconds, where the limit is one
 
 
-def slow_look_up(*given, **more):
+def slow_look_up(*given: Any, **more: Any) -> None:
     time.sleep(LONG)
 
 
-def endless(*given, **more):
+def endless(*given: Any, **more: Any) -> None:
     while True:
         pass
 
@@ -344,7 +358,7 @@ FONT = r"""curl 'https://api.test:8443/x' \
 
 # ---- several URLs, known hosts, verdicts
 
-def by_target(request):
+def by_target(request: loopback.Request) -> Said:
     """A server that is slow at /slow, refuses at /no, and answers as `plain` else."""
     if request.target.startswith("/slow"):
         return "hang"
@@ -353,7 +367,7 @@ def by_target(request):
 
 # ---- what is exported
 
-def secretive(request):
+def secretive(request: loopback.Request) -> bytes:
     both = b"Access-Control-Allow-Origin: https://app.example\r\nAccess-Control-Allow-Credentials: true\r\n"
     if request.method == "OPTIONS":
         return b"HTTP/1.1 204 No\r\n" + both + b"Access-Control-Allow-Headers: authorization\r\n\r\n"
@@ -361,8 +375,12 @@ def secretive(request):
 
 
 class Checks(base.Checks):
+    folder: str
+    pair: Pair
+    other: Pair
+
     @classmethod
-    def setUpClass(cls):
+    def setUpClass(cls) -> None:
         running.played(b'{"format":1,"documents":[]}')
         folder = tempfile.TemporaryDirectory()
         cls.addClassCleanup(folder.cleanup)
@@ -374,55 +392,55 @@ class Checks(base.Checks):
         patience.start()
         cls.addClassCleanup(patience.stop)
 
-    def test_ways(self):
+    def test_ways(self) -> None:
         self.counted(f"{self.check_ways(self.pair)} ways asked of real servers, as scripted ones play them")
 
-    def test_links(self):
+    def test_links(self) -> None:
         self.counted(f"{self.check_links(self.pair, self.other)} connections that fail or do not")
 
-    def test_statuses(self):
+    def test_statuses(self) -> None:
         self.check_statuses(self.pair)
 
-    def test_cookies(self):
+    def test_cookies(self) -> None:
         self.check_cookies(self.pair)
 
-    def test_in_all(self):
+    def test_in_all(self) -> None:
         self.check_in_all(self.pair)
 
-    def test_brief(self):
+    def test_brief(self) -> None:
         self.check_brief(self.pair)
 
-    def test_lints(self):
+    def test_lints(self) -> None:
         self.check_lints(self.pair)
 
-    def test_coded_bodies(self):
+    def test_coded_bodies(self) -> None:
         self.check_coded(self.pair)
 
-    def test_time_limits(self):
+    def test_time_limits(self) -> None:
         self.check_limits()
 
-    def test_undecided(self):
+    def test_undecided(self) -> None:
         self.check_undecided(self.pair)
 
-    def test_known_hosts(self):
+    def test_known_hosts(self) -> None:
         self.check_known_hosts(self.pair)
 
-    def test_books(self):
+    def test_books(self) -> None:
         self.check_books(self.pair, self.folder)
 
-    def test_local_networks(self):
+    def test_local_networks(self) -> None:
         self.check_local_networks()
 
-    def test_several_urls(self):
+    def test_several_urls(self) -> None:
         self.check_many(self.pair, self.folder)
 
-    def test_exports(self):
+    def test_exports(self) -> None:
         self.check_export(self.pair, self.folder)
 
-    def test_command(self):
+    def test_command(self) -> None:
         self.check_command(self.pair, self.folder)
 
-    def check_ways(self, pair):
+    def check_ways(self, pair: Pair) -> int:
         """What is asked of real servers is what is played by scripted ones."""
         count = 0
         for name, text, which in cases.scripted():
@@ -438,7 +456,7 @@ class Checks(base.Checks):
             count += 1
         return count
 
-    def check_links(self, pair, other):
+    def check_links(self, pair: Pair, other: Pair) -> int:
         """What is no connection, or none that brings all."""
         rows = [
             ("link/hang", lambda request: "hang", pair, "https://api.test/x", 3),
@@ -471,7 +489,7 @@ class Checks(base.Checks):
         self.compare("the ways of connections of its own", cases.DIRECT - reached, set())
         return len(rows) + 2 * len(TLS_PORTS) + 5
 
-    def check_unconnected(self, port):
+    def check_unconnected(self, port: int) -> None:
         """A port at which nobody listens, by the URL and by --connect-to, and an unknown name."""
         own, closed = {("api.test", 443): ("127.0.0.1", port)}, f"127.0.0.1:{port}"
         for name, url, address in [("link/refused", f"http://{closed}/x", closed), ("link/refused", "https://api.test/x", closed),
@@ -481,7 +499,7 @@ class Checks(base.Checks):
             lines = " ".join(answered.told.cases[-1].explanation.lines())
             self.compare(name + ": the address that was tried, and no route: " + lines, (address in lines, "route" in lines), (True, False))
 
-    def check_statuses(self, pair):
+    def check_statuses(self, pair: Pair) -> None:
         """0 is for what the page would read, and for nothing else."""
         jump = b"HTTP/1.1 302 Found\r\nAccess-Control-Allow-Origin: *\r\nLocation: https://cdn.test/y\r\nContent-Length: 0\r\n\r\n"
         long = b"HTTP/1.1 200 OK\r\nAccess-Control-Allow-Origin: *\r\n\r\n" + b"a" * (asked.LIMIT + 1)
@@ -497,9 +515,9 @@ class Checks(base.Checks):
             answered = answered_by(answer, pair, "https://api.test/x", page="https://shop.test/", **more)
             self.compare(name, (way_of(answered), answered.status()), (way, status))
 
-    def check_cookies(self, pair):
+    def check_cookies(self, pair: Pair) -> None:
         """Where a cookie is not sent, or a browser would keep it back, that is said."""
-        rows = [
+        rows: list[tuple[str, dict[str, Any], Optional[str]]] = [
             ("to another origin", dict(page="https://shop.test/"), "--credentials include alone"),
             ("by an element", dict(page="https://shop.test/", load="font"), "--crossorigin use-credentials alone"),
             ("to another site", dict(page="https://shop.test/", credentials="include"),
@@ -532,7 +550,7 @@ class Checks(base.Checks):
             told = [note for note in answered.notes() if "cookie" in note]
             self.compare(f"a cookie {name}: {told}", len(told) == 1 and part in told[0] if part else told == [], True)
 
-    def check_in_all(self, pair):
+    def check_in_all(self, pair: Pair) -> None:
         """What CORS wants of all answers is said at the first try, also where a policy lets nothing be sent."""
         part = ("in all: the answer to PUT at https://api.test/x needs `Access-Control-Allow-Origin: "
                 "https://shop.test` in place of any other except `*`, where it does not send that yet")
@@ -544,14 +562,14 @@ class Checks(base.Checks):
             self.compare(f"{name}: what was sent", answered.wire.exchanges, [])
         self.check_led(pair)
 
-    def check_led(self, pair):
+    def check_led(self, pair: Pair) -> None:
         """What is wanted at the target of a redirect, too, which says `Origin: null` behind a detour (Fetch, section
         4.4, "HTTP-redirect fetch")."""
         away, own = b"Location: https://cdn.test/y", b"Access-Control-Allow-Origin: https://shop.test"
         passing = b"\r\n".join([b"HTTP/1.1 204 No", own, b"Access-Control-Allow-Headers: x-a", b"", b""])
         led = b"\r\n".join([b"HTTP/1.1 302 Found", own, away, b"Content-Length: 0", b"", b""])
 
-        def at_target(request):
+        def at_target(request: loopback.Request) -> Said:
             return passing.replace(b"x-a", b"x-b") if request.target == "/y" else (
                 passing if request.method == "OPTIONS" else led)
         asked = ("the answer to OPTIONS at https://cdn.test/y, which is asked with `Origin: null`, needs a status of "
@@ -568,7 +586,7 @@ class Checks(base.Checks):
             in_all = replies.reply_of(answered).in_all
             self.compare(f"{name}: {in_all}", in_all[number:number + 1], [line])
 
-    def check_brief(self, pair):
+    def check_brief(self, pair: Pair) -> None:
         """--brief says what to change, in the verdict or, of several answers, in a line for each; and counts
         warnings."""
         bare, refused = b"HTTP/1.1 200 OK\r\nContent-Length: 0\r\n\r\n", "the page would not read it: "
@@ -599,7 +617,7 @@ class Checks(base.Checks):
             begin = [line[:len(part)] if part.endswith(" needs ") else line for line, part in zip(lines, wanted)]
             self.compare(f"in brief, {name}: {lines}", begin + lines[len(wanted):], wanted)
 
-    def check_lints(self, pair):
+    def check_lints(self, pair: Pair) -> None:
         """What lints find in the words and in an answer is said, once."""
         wrong = b"HTTP/1.1 200 OK\r\nAccess-Control-Allow-Origin: *\r\nStrict-Transport-Security: max-age='1'\r\nContent-Length: 0\r\n\r\n"
         answered = answered_by(lambda request: wrong, pair, "https://api.test/x", page="https://shop.test/", policy=["conect-src *"],
@@ -609,13 +627,13 @@ class Checks(base.Checks):
         answered = answered_by(lambda request: coded(b"gzip", packed(TEXT, 31), b"Vary: Origin"), pair,
                                "https://api.test/x", page="https://shop.test/", compressed=True, twice=True)
         part = "https://api.test/x: Content-Encoding: Vary does not have Accept-Encoding, so a cache gives this coded"
-        told = [note for note in answered.notes() if part in note and "send `Vary: Origin, Accept-Encoding`" in note]
-        self.compare(f"what a proxy's coded answer lacks: {answered.notes()}", len(told), 1)
+        notes = [note for note in answered.notes() if part in note and "send `Vary: Origin, Accept-Encoding`" in note]
+        self.compare(f"what a proxy's coded answer lacks: {answered.notes()}", len(notes), 1)
 
-    def check_words(self, folder, place):
+    def check_words(self, folder: str, place: str) -> None:
         """Words that are wrong are told in a sentence."""
         url, older = "https://api.test:8443/x", {**os.environ, "FIORRUDDA_LIBRARY": _ctypes.__file__}
-        rows = [
+        rows: list[tuple[str, list[Any], str]] = [
             ("no word for the URL", ["/x"], "write it whole"),
             ("a page that is none", [url, "--from", "about:blank"], "no http or https URL of a page"),
             ("a page with a blank in its host", [url, "--from", "https://a b/"], "no http or https URL of a page"),
@@ -647,11 +665,11 @@ class Checks(base.Checks):
                            (["--data-raw", "@-"], b"body 2: @-"), (["-d", "a=1", "--data-raw", "b=2"], b"body 7: a=1&b=2"),
                            (["--data-urlencode", "q=a b&c"], b"body 11: q=a%20b%26c")]:
             told = ran(url, "--connect-to", place, "--export", export, *data, input=b"hi")
-            self.compare(f"a body by {data}: {told.stdout}",
+            self.compare(f"a body by {data}: {told.stdout!r}",
                          (told.returncode, b"\n  POST /x " in told.stdout, sent in told.stdout), (0, True, True))
             self.compare("what its scenario lacks", b"the body is no UTF-8" in told.stdout, data[1] == "@" + body)
 
-    def check_curl_words(self, place):
+    def check_curl_words(self, place: str) -> None:
         """Words of curl, and headers that no page can set."""
         url = "https://api.test:8443/x"
         rows = [
@@ -669,20 +687,20 @@ class Checks(base.Checks):
             (["-F", "a=b;type=text/plain", "-F", "f=@/dev/null;filename=\"x\""], ["POST /x HTTP/1.1"]),
         ]
         for words, lines in rows:
-            for first in ([], ["curl"]):
+            for first in (list[str](), ["curl"]):
                 told = ran("--connect-to", place, *first, *words, "--url", url)
                 text = told.stdout.decode().split("\n")
-                self.compare(f"{first + words}: {told.stdout}{told.stderr}",
+                self.compare(f"{first + words}: {told.stdout!r}{told.stderr!r}",
                              (told.returncode, [one for one in lines if "  " + one not in text]), (0, []))
         self.check_left_out(place, url)
         for words in (["-b", "cookies.txt"], ["-u", "me"], ["--data-urlencode", "q@file"], ["-H", "none"], ["--with-secrets"]):
             told = ran(url, *words)
-            self.compare(f"{words}: {told.stderr}", (told.returncode, b"Traceback" in told.stderr), (2, False))
+            self.compare(f"{words}: {told.stderr!r}", (told.returncode, b"Traceback" in told.stderr), (2, False))
 
-    def check_left_out(self, place, url):
+    def check_left_out(self, place: str, url: str) -> None:
         """Headers that no page sets, and those that browsers add."""
         told = ran("curl", url, "-d", "a=1", "--connect-to", place)
-        self.compare(f"a form, as curl sends it: {told.stdout}",
+        self.compare(f"a form, as curl sends it: {told.stdout!r}",
                      b"\n  Content-Type: application/x-www-form-urlencoded\n" in told.stdout, True)
         names = ["Origin", "Accept-Encoding", "Sec-Fetch-Site", "User-Agent", "Host", "Proxy-Authorization"]
         told = ran(url, "--from", "https://app.example/", "--connect-to", place, "--header", "Cookie: a=1",
@@ -694,43 +712,48 @@ class Checks(base.Checks):
         self.compare("a cookie in a header: " + text, "# note: `Cookie` is taken as --cookie\n" in text, True)
         told = ran(url, "--from", "https://app.example/", "--connect-to", place, "--mode", "no-cors",
                    "-H", "Sec-Fetch-Dest: empty", "-H", "X-A: 1", "-H", "Authorization: Bearer a")
-        self.compare(f"what is dropped in mode no-cors: {told.stdout}", self.left_out(told.stdout.decode()),
+        self.compare(f"what is dropped in mode no-cors: {told.stdout!r}", self.left_out(told.stdout.decode()),
                      ["Authorization", "X-A", "Sec-Fetch-Dest"])
         agent, fresh, old = "User-Agent: Mozilla/5.0", "Cache-Control: no-cache", "Pragma: no-cache"
         for headers, names in [([fresh], ["User-Agent"]), ([fresh, old], ["Cache-Control", "Pragma", "User-Agent"]),
                                (["Cache-Control: max-age=0"], ["Cache-Control", "User-Agent"])]:
             told = ran(url, "--connect-to", place, *sum((["-H", one] for one in [agent, *headers]), []))
-            self.compare(f"left out with {headers}: {told.stdout}", sorted(self.left_out(told.stdout.decode())), names)
-        for words, lines in [(["-H", "authorization:"], ["`authorization` is sent without a value"]),
-                             (["-H", "x-a: 1"], []), (["-H", "it's: 1"], ["the header `it's` has a quote in its name, which"])]:
+            left = sorted(self.left_out(told.stdout.decode()))
+            self.compare(f"left out with {headers}: {told.stdout!r}", left, names)
+        rows: list[tuple[list[str], list[str]]] = [
+            (["-H", "authorization:"], ["`authorization` is sent without a value"]), (["-H", "x-a: 1"], []),
+            (["-H", "it's: 1"], ["the header `it's` has a quote in its name, which"])]
+        for words, lines in rows:
             notes = [line[8:] for line in ran(url, "--connect-to", place, *words).stdout.decode().split("\n")
                      if line.startswith("# note: ") and ("without a value" in line or "quote" in line)]
             self.compare(f"notes of {words}: {notes}", [one[:len(part)] for one, part in zip(notes, lines)] + notes[len(lines):],
                          lines)
         for origin, count in [("https://app.example", 1), ("https://api.test:8443", 0)]:
             told = ran(url, "--connect-to", place, *sum((["-H", one] for one in [agent, "origin: " + origin, "dpr: 2", "rtt: 50"]), []))
-            self.compare(f"client hints from {origin}: {told.stdout}",
+            self.compare(f"client hints from {origin}: {told.stdout!r}",
                          told.stdout.count(b"# note: the browser may have added `dpr`, `rtt` by itself (client hints)"), count)
 
-    def check_agent(self, place, url):
+    def check_agent(self, place: str, url: str) -> None:
         """What browsers make of a script's User-Agent is said once, where a script may set one (Fetch, section 2.2.2:
         it is no forbidden header)."""
         says = "; where a script sets one, Firefox sends that and asks another origin for a preflight first, and"
         agent = ["-H", "User-Agent: Mozilla/5.0"]
-        for words, count in [(agent, 1), (["-A", "mine"], 1), ([*agent, "-A", "mine"], 1), ([], 0),
-                             ([*agent, "--mode", "no-cors"], 0), ([*agent, "-H", "Sec-Fetch-Mode: no-cors"], 0)]:
+        rows: list[tuple[list[str], int]] = [
+            (agent, 1), (["-A", "mine"], 1), ([*agent, "-A", "mine"], 1), ([], 0),
+            ([*agent, "--mode", "no-cors"], 0), ([*agent, "-H", "Sec-Fetch-Mode: no-cors"], 0)]
+        for words, count in rows:
             text = ran(url, "--connect-to", place, *words).stdout.decode()
             self.compare(f"a User-Agent, by {words}: {text}", text.count(says), count)
 
-    def check_first_words(self, place):
+    def check_first_words(self, place: str) -> None:
         for words, part in FIRST_WORDS:
             told = ran("--connect-to", place, *words)
             self.compare(f"{words}: {told}", (told.returncode, told.stdout, part.encode() in told.stderr), (2, b"", True))
         for url in ("data.json", "v1.2/x", "./api.test/x", "/api.test"):
             told = ran("--connect-to", place, url, "--from", "https://api.test:8443/")
-            self.compare(f"{url}: {told.stderr}", told.returncode, 0)
+            self.compare(f"{url}: {told.stderr!r}", told.returncode, 0)
 
-    def check_stray(self, place):
+    def check_stray(self, place: str) -> None:
         """Words that came apart are refused before anything is asked, and what may be a secret is not said again."""
         asked = (f"{os.path.join(ROOT, 'bin', 'ask')} --connect-to {place} curl 'https://api.test:8443/x' -H 'origin: "
                  "https://app.example' ")
@@ -738,11 +761,12 @@ class Checks(base.Checks):
             told = subprocess.run(["bash", "-c", asked + words], stdout=subprocess.PIPE, stderr=subprocess.PIPE)
             text = told.stderr.decode()
             self.compare(f"{words}: {text}", (told.returncode, told.stdout, part in text, "eyJ" in text), (2, b"", True, False))
-        for words in (["-H", "accept:", "https://api.test:8443/x"], ["--from", "https://api.test:8443/", "x", "--header", "a: b"]):
-            told = ran("--connect-to", place, *words)
-            self.compare(f"{words}: {told.stderr}", (told.returncode, b"GET /x " in told.stdout), (0, True))
+        for own in (["-H", "accept:", "https://api.test:8443/x"],
+                    ["--from", "https://api.test:8443/", "x", "--header", "a: b"]):
+            told = ran("--connect-to", place, *own)
+            self.compare(f"{own}: {told.stderr!r}", (told.returncode, b"GET /x " in told.stdout), (0, True))
 
-    def check_glued(self, place):
+    def check_glued(self, place: str) -> None:
         """A URL right behind a header's colon is sent with it, and named; one that a header may have is not."""
         url, note = "https://api.test:8443/x", "# note: the URL behind `x-next:` is sent as the value of that header: is a "
         rows = [(["-H", "x-next:https://api.test:8443/y"], True), (["--header=x-next:https://api.test:8443/y"], True),
@@ -754,16 +778,17 @@ class Checks(base.Checks):
             told = ran(url, "--connect-to", place, *words)
             self.compare(f"{words}: {told}", (told.returncode, note.encode() in told.stdout,
                                                     b"value of that header" in told.stdout), (0, is_named, is_named))
-        told = ran("-H", "x-next:" + url).stderr.decode()
-        self.compare("no URL but in a header: " + told, "name a URL; the header `x-next` has one as its value: is a" in told, True)
+        text = ran("-H", "x-next:" + url).stderr.decode()
+        part = "name a URL; the header `x-next` has one as its value: is a"
+        self.compare("no URL but in a header: " + text, part in text, True)
 
-    def left_out(self, text):
+    def left_out(self, text: str) -> list[str]:
         """The names in the one note of what is left out."""
         notes = [line for line in text.split("\n") if line.startswith("# note: left out: ")]
         self.compare("notes of what is left out", len(notes) < 2, True)
         return re.findall("`([^`]*)`", "".join(notes))
 
-    def check_command(self, pair, folder):
+    def check_command(self, pair: Pair, folder: str) -> None:
         """As people call it."""
         export = os.path.join(folder, "asked.json")
         with loopback.Servers(allowed, pair) as servers:
@@ -802,7 +827,7 @@ class Checks(base.Checks):
             for words in ([*put], ["--help"], [*put, "--json"]):
                 self.compare("a closed pipe", pipes.without_reader("ask", *words), b"")
 
-    def check_coded(self, pair):
+    def check_coded(self, pair: Pair) -> None:
         for name, answer in whole_bodies().items():
             answered = answered_by(lambda request: answer, pair, "https://api.test/x", page="https://shop.test/")
             result = answered.told.cases[-1].result
@@ -818,7 +843,7 @@ class Checks(base.Checks):
         answered = answered_by(lambda request: exposed, pair, "https://api.test/x", page="https://shop.test/")
         self.compare("coded: the headers that another page reads", answered.told.cases[-1].result.headers,
                      [("Content-Encoding", "gzip"), ("Content-Length", str(len(gzip)))])
-        rows = [
+        rows: list[tuple[str, Said, dict[str, Any], str, int]] = [
             ("an empty body", coded(b"gzip", b""), {}, "cors 200", 0),
             ("a body that ends before its coding", coded(b"gzip", gzip[:-9]), {}, "body/coding-cut", 1),
             ("a body that ends before its length", coded(b"gzip", gzip)[:-9], {}, "seen/body-cut", 1),
@@ -837,9 +862,9 @@ class Checks(base.Checks):
             ("another digest", coded(b"gzip", gzip), dict(integrity="sha256-" + "A" * 43 + "="), "integrity/mismatch", 1),
             ("256 MB of zeros", coded(b"gzip", packed(bytes(1 << 20), 31, 256)), {}, "seen/body-toobig", 0),
         ]
-        for name, answer, more, way, status in rows:
+        for name, said, more, way, status in rows:
             with self.within(f"coded, {name}", 5):
-                answered = answered_by(lambda request: answer, None, "http://api.test/x", page="http://shop.test/", **more)
+                answered = answered_by(always(said), None, "http://api.test/x", page="http://shop.test/", **more)
             self.compare(f"coded, {name}", (way_of(answered), answered.status()), (way, status))
             if name == "another digest":
                 self.compare("the digest that is advised", digest in answered.told.cases[-1].explanation.change, True)
@@ -854,7 +879,7 @@ class Checks(base.Checks):
         self.check_packed(pair, gzip)
         self.check_undecoded(pair)
 
-    def check_read_over(self, gzip):
+    def check_read_over(self, gzip: bytes) -> None:
         """What stands behind the data of a coding: Chromium and Firefox read gzip without it, or where it does not fit."""
         deflate = packed(TEXT, 15)
         rows = [(b"gzip", gzip[:-8], "the gzip body lacks its trailer"), (b"gzip", gzip[:-3], "lacks its trailer"),
@@ -872,7 +897,7 @@ class Checks(base.Checks):
             status, _, _, told = told_of(coded(coding, body))
             self.compare(f"not read over: {told}", (status, [part for part in parts if part not in told]), (1, []))
 
-    def check_odd_codings(self, gzip):
+    def check_odd_codings(self, gzip: bytes) -> None:
         """Codings that no browser knows, that stand in no list, and that name more, or less, than was done."""
         rows = [
             (b"foo", gzip, 0, "Content-Encoding says `foo`, which Chromium and Firefox do not decode: the page gets the"),
@@ -888,14 +913,14 @@ class Checks(base.Checks):
         ]
         for coding, body, wanted, part in rows:
             status, _, _, told = told_of(coded(coding, body))
-            self.compare(f"Content-Encoding {coding}: {told}", (status, part in told), (wanted, True))
+            self.compare(f"Content-Encoding {coding!r}: {told}", (status, part in told), (wanted, True))
         with without_br():
             status, _, _, told = told_of(coded(b"br", b"?"))
         parts = ["install Debian's package python3-brotli, or brotli by pip; a browser", "; known without it: the status 200, and "
                  "that CORS, policies and types let it", "change: install python3-brotli and ask again; or for a verdict"]
         self.compare(f"br: {told}", (status, [part for part in parts if part not in told]), (4, []))
 
-    def check_framings(self, gzip):
+    def check_framings(self, gzip: bytes) -> None:
         """A length beside chunks; and two lengths, of which one verdict is told."""
         both = [b"Transfer-Encoding: chunked", b"Content-Length: 5"]
         for answer in (coded(b"gzip", in_chunks(gzip), framing=both), coded(b"identity", in_chunks(TEXT), framing=both)):
@@ -918,20 +943,20 @@ class Checks(base.Checks):
         self.compare(f"two lengths, and no CORS: {answered.verdict[1]}",
                      (answered.status(), answered.verdict[1].startswith(says)), (1, True))
 
-    def check_asked_codings(self, pair):
+    def check_asked_codings(self, pair: Pair) -> None:
         """The verdict and a note tell how to ask as a browser does, where the answer may depend on that; --compressed
         does it, as far as codings are decoded here, and says which ones a browser names (br and zstd over https)."""
         for line, is_told in [(b"Vary: Accept-Encoding", True), (b"Vary: Origin", False)]:
             told = told_of(coded(b"identity", TEXT, line))[3]
-            self.compare(f"{line}: {told}", "--compressed asks with `gzip, deflate" in told, is_told)
+            self.compare(f"{line!r}: {told}", "--compressed asks with `gzip, deflate" in told, is_told)
             answered = answered_by(lambda request: coded(b"identity", TEXT, line), None, "http://api.test/x",
                                    page="http://shop.test/")
             says = "; it was asked for without a coding: --compressed asks as a browser does"
-            self.compare(f"{line}: {answered.verdict}", (answered.status(), answered.verdict[1].endswith(says)),
+            self.compare(f"{line!r}: {answered.verdict}", (answered.status(), answered.verdict[1].endswith(says)),
                          (0, is_told))
         for words, part in [({}, b"identity"), (dict(compressed=True), codings.accepted().encode())]:
             sent = []
-            def answer(request):
+            def answer(request: loopback.Request) -> Said:
                 sent.append(request.data)
                 return coded(b"identity", TEXT)
             told = told_of(answer, **words)[3]
@@ -945,10 +970,10 @@ class Checks(base.Checks):
         self.compare(f"what is said of --compressed over https: {notes}",
                      [one.endswith(says) for one in notes].count(True), 1)
 
-    def check_node(self):
+    def check_node(self) -> None:
         """Where python3 has no module brotli, node decodes br as that does, and no more of it than is read."""
         zeros = 'process.stdout.write(require("zlib").brotliCompressSync(Buffer.alloc(1 << 26)))'
-        bomb = subprocess.run([node_brotli.program(), "-e", zeros], stdout=subprocess.PIPE, check=True).stdout
+        bomb = subprocess.run([node_brotli.program() or "node", "-e", zeros], stdout=subprocess.PIPE, check=True).stdout
         whole = stored(TEXT)
         rows = [
             ("whole", whole, "cors 200", TEXT, 0), ("with bytes behind its end", whole + b"more", "cors 200", TEXT, 0),
@@ -961,25 +986,25 @@ class Checks(base.Checks):
                     told = told_of(coded(b"br", sent, framing=framing))
                     self.compare(f"br by node, {name}: {told[3]}", told[:3], (status, read, way))
 
-    def check_undecoded(self, pair):
+    def check_undecoded(self, pair: Pair) -> None:
         """Codings that nothing here decodes are named, with what is to be installed."""
         with without_br():
             for coding, part in [(b"br", "br is not decoded here, since there is neither node nor python3's module brotli: "
                                          "install Debian's package python3-brotli"), (b"zstd", ": zstd is not decoded here; a browser"),
                                  (b"gzip, gzip, gzip, gzip, gzip", "gzip is not decoded here; ")]:
                 answered = answered_by(lambda request: coded(coding, b"?"), pair, "https://api.test/x", page="https://shop.test/")
-                self.compare(f"a coding that nothing here decodes: {coding}: {answered.verdict}",
+                self.compare(f"a coding that nothing here decodes: {coding!r}: {answered.verdict}",
                              (answered.status(), answered.told.cases[-1].result.short(), part in answered.verdict[1]),
                              (4, "23 Coding", True))
             answered = answered_by(lambda request: coded(b"br", b"?"), pair, "https://api.test/x", load="image")
             self.compare(f"an image in br, without its decoder: {answered.notes()}",
                          (answered.status(), "install Debian's package python3-brotli" in "".join(answered.notes())), (0, True))
 
-    def check_unread(self, pair, gzip):
+    def check_unread(self, pair: Pair, gzip: bytes) -> None:
         """What an element loads is decided by the engine before its body is read; a fault of the body is one all the same."""
         lengths, chunked = [b"Content-Length: 1, 2"], [b"Transfer-Encoding: chunked"]
         cut, not_coded = ("body/coding-cut", "send all of it"), ("body/not-its-coding", "leave Content-Encoding out")
-        rows = [
+        rows: list[tuple[str, Said, str, str]] = [
             ("a cut body", BEGUN, "seen/body-cut", "2 bytes came, and Content-Length says 9"),
             ("cut chunks", coded(b"identity", b"5\r\nab", framing=chunked), "seen/body-cut", "ends before the end"),
             ("two lengths", coded(b"identity", b"a", framing=lengths), "body/two-lengths", "two lengths, 1 and 2: both"),
@@ -995,8 +1020,8 @@ class Checks(base.Checks):
             ("gzip, said to be deflate", coded(b"deflate", gzip), "body/not-its-coding", "let Content-Encoding say gzip"),
         ]
         for kind, (name, answer, way, part) in itertools.product(["image", "script"], rows):
-            typed = with_type(answer, kind)
-            answered = answered_by(lambda request: typed, pair, "https://api.test/x", is_endless(typed),
+            typed: Said = with_type(answer, kind)
+            answered = answered_by(always(typed), pair, "https://api.test/x", is_endless(typed),
                                    page="https://shop.test/", load=kind)
             told = "\n".join([answered.verdict[1], *answered.told.cases[-1].explanation.lines(), *answered.notes()])
             self.compare(f"a load of a {kind}, {name}: {told}",
@@ -1006,10 +1031,11 @@ class Checks(base.Checks):
                          (way, 1, "refused", True, True, False))
         self.check_loaded(pair, gzip)
 
-    def check_loaded(self, pair, gzip):
+    def check_loaded(self, pair: Pair, gzip: bytes) -> None:
         """Bodies in which nothing is wrong, or nothing that is known."""
         chunked = [b"Transfer-Encoding: chunked"]
-        good = {"gzip": coded(b"gzip", gzip), "no body": coded(b"gzip", b""), "a whole body": plain(None),
+        good: dict[str, Said] = {
+                "gzip": coded(b"gzip", gzip), "no body": coded(b"gzip", b""), "a whole body": plain(None),
                 "gzip in chunks": coded(b"gzip", in_chunks(gzip), framing=chunked),
                 "gzip with bytes behind its end": coded(b"gzip", gzip + b"more"),
                 "a beginning": (coded(b"gzip", gzip[:99], framing=[]), "hang"),
@@ -1024,7 +1050,7 @@ class Checks(base.Checks):
         self.compare(f"a load, gzip said to be zstd: {answered.notes()}", (answered.status(), answered.notes()[-1:]), (
             0, ["https://api.test: its body was not read: Content-Encoding says zstd; its first bytes, 1f 8b, are those of gzip"]))
 
-    def check_packed(self, pair, gzip):
+    def check_packed(self, pair: Pair, gzip: bytes) -> None:
         """A note tells of gzip that no Content-Encoding names, but where it is a file that is packed."""
         rows = [
             ("no coding", "/x", None, gzip, b"application/json", "the answer has no Content-Encoding: the page gets it packed: "
@@ -1058,11 +1084,14 @@ class Checks(base.Checks):
             answered = answered_by(lambda request: answer, pair, "https://api.test/x", page="https://shop.test/", mode=mode)
             self.compare("packed, and not read", [note for note in answered.notes() if "gzip" in note], [])
 
-    def check_told_codings(self, gzip):
+    def check_told_codings(self, gzip: bytes) -> None:
         """What is said of a body whose head does not fit it, and what is not."""
         text, size = b"Content-Length: %d" % len(TEXT), len(gzip)
         noise = packed(b"".join(hashlib.sha256(b"%d" % number).digest() for number in range(9000)), 31)
-        rows = [
+        short: list[tuple[str, bytes, int, list[Any]]] = [
+            ("", gzip, size, [b""]), (", on a connection that stays", gzip, size, ["hang"]),
+            (", and more", gzip + b"more", size, [b""]), (", of much", noise, len(noise), [b""])]
+        rows: list[tuple[str, Any, list[str], list[str]]] = [
             ("plain bytes", coded(b"gzip", TEXT),
              ["is not gzip, as Content-Encoding says", "leave Content-Encoding out, or compress"],
              ["right length", "1f 8b", "zlib", "Error -3", "incorrect"]),
@@ -1085,8 +1114,7 @@ class Checks(base.Checks):
             *[(f"a length that is too short{told}", (coded(b"gzip", data, framing=[b"Content-Length: %d" % (size - 9)]), *link),
                ["the gzip body is cut: ", f"Content-Length says {size - 9}", f"header: Content-Length: {size - 9}",
                 f"change: let Content-Length say {wanted}\n"], ["header: Content-Encoding", "send all"])
-              for told, data, wanted, link in [("", gzip, size, [b""]), (", on a connection that stays", gzip, size, ["hang"]),
-                                               (", and more", gzip + b"more", size, [b""]), (", of much", noise, len(noise), [b""])]],
+              for told, data, wanted, link in short],
             ("a length that is too short, of gzip that is cut", coded(b"gzip", gzip[:-1], framing=[b"Content-Length: 99"]),
              ["header: Content-Length: 99", "change: leave Content-Length out, or let it say how many bytes there are\n"],
              ["send all", "let Content-Length say"]),
@@ -1094,7 +1122,7 @@ class Checks(base.Checks):
              [f"two lengths, {len(TEXT)} and {size}", "both browsers make that a network error"], ["announced"]),
         ]
         for name, answer, parts, others in rows:
-            answered = answered_by(lambda request: answer, None, "http://api.test/x", is_endless(answer),
+            answered = answered_by(always(answer), None, "http://api.test/x", is_endless(answer),
                                    page="http://shop.test/")
             told = "\n".join(answered.told.cases[-1].explanation.lines() + answered.notes())
             first = answered.verdict[1]
@@ -1104,18 +1132,20 @@ class Checks(base.Checks):
             self.compare(f"what is said of a body, {name}: {told}",
                          ([part for part in parts if part not in told], [part for part in others if part in told]), ([], []))
 
-    def check_limits(self):
+    def check_limits(self) -> None:
         """The time limit holds, whatever Python does."""
-        for name, place, word, slow in [("a slow look-up of the name", live.socket, "getaddrinfo", slow_look_up),
-                                        ("an endless loop", asked.told, "Told", endless)]:
+        limits: list[tuple[str, Any, str, Callable[..., None]]] = [
+            ("a slow look-up of the name", socket, "getaddrinfo", slow_look_up),
+            ("an endless loop", telling, "Told", endless)]
+        for name, place, word, slow in limits:
             with socket.create_server(("127.0.0.1", 0)) as mute, mock.patch.object(place, word, slow):
                 began = time.monotonic()
-                words = given("http://api.test/x", timeout=5, connect_to={("api.test", 80): mute.getsockname()})
-                reply = replies.replied(words, "http://api.test/x")
+                plainly = given("http://api.test/x", timeout=5, connect_to={("api.test", 80): mute.getsockname()})
+                reply = replies.replied(plainly, "http://api.test/x")
             took = time.monotonic() - began
             self.compare(f"{name}: {took:.1f} s: {reply.verdict}", (reply.status, took < LONG / 2), (3, True))
             self.compare(name + ": what had come", reply.story[1][0], "fetch 0")
-        rows = [
+        rows: list[tuple[str, list[str], Optional[bytes], int, bytes]] = [
             ("600,000 chunks of a byte", ["--integrity", "sha256-" + "A" * 43 + "="], b"1\r\na\r\n" * 600000, 1, b"22 Integrity"),
             ("32 MB of chunk extensions", [], (b"1;%s\r\na\r\n" % (b"x" * 4090)) * 8192, 0, b"8192 bytes"),
             ("50,000 heads before the final one", [], None, 1, b"26 HeadTooBig"),
@@ -1127,9 +1157,9 @@ class Checks(base.Checks):
                 with self.within(name, 5):
                     told = ran("http://api.test/x", "--timeout", "300", "--brief", *words,
                                "--connect-to", f"api.test:80:127.0.0.1:{servers.port}")
-            self.compare(f"{name}: {told.stdout}{told.stderr}", (told.returncode, part in told.stdout), (status, True))
+            self.compare(f"{name}: {told.stdout!r}{told.stderr!r}", (told.returncode, part in told.stdout), (status, True))
 
-    def check_copied(self, place):
+    def check_copied(self, place: str) -> None:
         """What was copied is asked as it was: its page, its cookies, its body; and what browsers add is left out."""
         rows = [
             ("Chromium", CHROMIUM, 1, ["  GET /x?a=1 HTTP/1.1", "  accept: application/json", "  Origin: https://app.example",
@@ -1160,13 +1190,13 @@ class Checks(base.Checks):
             self.compare("copied from mode " + mode, told.stdout.decode(), f"the page would read it{part}: 200, 2 "
                                                                            "bytes\n")
 
-    def check_many(self, pair, folder):
+    def check_many(self, pair: Pair, folder: str) -> None:
         name, patience = os.path.join(folder, "urls"), 10
         with open(name, "w", encoding="utf-8") as file:
             file.write("# more\n\ndata:text/plain,hi\n")
         asked_at = []
 
-        def noting(request):
+        def noting(request: loopback.Request) -> Said:
             asked_at.extend([time.monotonic()] if request.target.startswith("/slow") else [])
             return by_target(request)
         with loopback.Servers(noting, pair) as servers:
@@ -1197,11 +1227,11 @@ class Checks(base.Checks):
             text = ran(words[0], *words[2:]).stdout.decode()
             self.compare("the verdict comes first", text.partition("\n")[0], "# the page would read it: 200, 2 bytes")
             told = ran(words[0], "about:blank", *words[-2:])
-            self.compare(f"one that is wrong among several: {told.stdout}",
+            self.compare(f"one that is wrong among several: {told.stdout!r}",
                          (told.returncode, b"wrong words: " in told.stdout, b"basic 200" in told.stdout), (2, True, True))
             self.compare("a word that takes one URL", ran(*words, "--export", name).returncode, 2)
 
-    def check_undecided(self, pair):
+    def check_undecided(self, pair: Pair) -> None:
         for url in ("data:text/plain,hi", "blob:https://shop.test/1-2", "wss://api.test/x", "WSS://api.test/x"):
             reply = replies.replied(given(url, page="https://shop.test/"), url)
             self.compare(f"{url}: {reply.verdict}", (reply.status, reply.verdict.startswith("no verdict: ")), (4, True))
@@ -1213,7 +1243,7 @@ class Checks(base.Checks):
             reply = replies.replied(given(url, page="https://shop.test/"), url)
             self.compare("what no browser loads: " + reply.verdict, reply.status, 1)
 
-    def check_known_hosts(self, pair):
+    def check_known_hosts(self, pair: Pair) -> None:
         rows = [("api.test", False, "https"), ("test", True, "https"), ("test", False, "http"), ("TEST", True, "https")]
         for host, with_subdomains, scheme in rows:
             with loopback.Servers(plain, pair) as servers:
@@ -1226,7 +1256,7 @@ class Checks(base.Checks):
             self.compare(f"--hsts {host}: {reply.verdict}", (reply.status, "--hsts" in reply.verdict), (2, True))
         self.compare("--hsts with another word", ran("http://api.test/", "--hsts", "a.test,all").returncode, 2)
 
-    def check_books(self, pair, folder):
+    def check_books(self, pair: Pair, folder: str) -> None:
         """Of the hosts that a book knows each upgrade is told its own, and a URL that stays http why (RFC 6797, section 8.2: a
         host, or one above it with includeSubDomains). What is exported has those of its sites alone, and plays the same."""
         name, exported = os.path.join(folder, "known.book"), os.path.join(folder, "known.json")
@@ -1254,7 +1284,7 @@ class Checks(base.Checks):
             told = running.played(data)
             self.compare(f"--book {hosts}: its export plays {told}", f"\nsend http{'s' * is_upgraded}://{host}\n" in told, True)
 
-    def check_local_networks(self):
+    def check_local_networks(self) -> None:
         """A page of the internet that asks this machine is told what Chromium does then, once; one of this machine is not."""
         for page, count in [("http://shop.test/", 1), ("http://localhost/", 0)]:
             with loopback.Servers(plain) as servers:
@@ -1262,9 +1292,9 @@ class Checks(base.Checks):
             lines = [line for _, own in answered.pieces() for line in own if "local network access" in line]
             self.compare(f"a page of {page} asks this machine: {lines}", len(lines), count)
 
-    def check_export(self, pair, folder):
+    def check_export(self, pair: Pair, folder: str) -> None:
         """A file for its owner alone, without secrets, and in the place of none that --export did not write."""
-        def path(name):
+        def path(name: str) -> str:
             return os.path.join(folder, name)
         foreign = '{"format": 2, "documents": [{"url": "https://a.test/", "headers": []}]}'
         for name, text in [("text", "sekret"), ("foreign", foreign)]:
@@ -1277,15 +1307,17 @@ class Checks(base.Checks):
                      "--connect-to", f"api.test:8443:127.0.0.1:{servers.port}", "--export"]
             for name in ("text", "foreign", "link", "."):
                 told = ran(*words, path(name))
-                self.compare(f"--export over {name}: {told.stderr}", (told.returncode, told.stdout), (2, b""))
+                self.compare(f"--export over {name}: {told.stderr!r}", (told.returncode, told.stdout), (2, b""))
             with open(path("text"), encoding="utf-8") as file:
                 self.compare("what was not written over", file.read(), "sekret")
             self.compare("the link", os.path.islink(path("link")), True)
-            for name, more, is_there in [("masked", [], False), ("masked", [], False), ("whole", ["--with-secrets"], True)]:
+            rows: list[tuple[str, list[str], bool]] = [
+                ("masked", [], False), ("masked", [], False), ("whole", ["--with-secrets"], True)]
+            for name, more, is_there in rows:
                 told = ran(*words, path(name), *more)
-                with open(path(name), "rb") as file:
-                    data = file.read()
-                case = f"--export {name}: {told.stdout + told.stderr}"
+                with open(path(name), "rb") as written:
+                    data = written.read()
+                case = f"--export {name}: {told.stdout + told.stderr!r}"
                 self.compare(case, (told.returncode, [b"sekret%d" % number in data for number in (1, 2, 3, 4)]), (0, [is_there] * 4))
                 self.compare(case + ": its mode", stat.S_IMODE(os.stat(path(name)).st_mode), 0o600)
                 self.compare(case + ": it plays", "\nresult cors 200 " in running.played(data), True)
@@ -1293,5 +1325,5 @@ class Checks(base.Checks):
         self.compare("nothing beside it", [name for name in os.listdir(folder) if name.startswith(("masked.", "whole."))], [])
 
 
-def main():
+def main() -> int:
     return base.main("commands/check_ask", __name__)

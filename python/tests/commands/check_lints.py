@@ -13,19 +13,25 @@
 - bin/why, --json, --net and --lints, and bin/expect with and without --strict.
 
 It needs python3 (3.9 or later). Plays are made by bin/fetchplay, or by the program that FETCHPLAY names."""
+from __future__ import annotations
+
 import copy
 import glob
 import json
 import os
 import re
 import subprocess
+from typing import Any
 
 from fiorrudda.commands import asking, doubts, json_text, lints
 from fiorrudda.commands.lints import grammar
+from fiorrudda.commands.lints.entry import Finding, Lint
 from fiorrudda.commands.scenario import Scenario
+from fiorrudda.commands.told import Told
 from fiorrudda.places import ROOT
 from tests import base
 from tests.commands import advice, cases, lint_cases, net_peers
+from tests.commands.cases import Data
 from tests.commands.lint_cases import PAGE, csp_of, page
 
 # What the standards have: CSP 3, Trusted Types and fenced frames; and keywords, with Speculation Rules.
@@ -40,54 +46,54 @@ GONE = """block-all-mixed-content plugin-types referrer reflected-xss navigate-t
 FIXES = ("write ", "send ", "take ", "put ", "add ", "make ", "list ", "name ", "ask ", "to check it, ")
 
 
-def ran(command, *words, **more):
+def ran(command: str, *words: str, **more: Any) -> subprocess.CompletedProcess[bytes]:
     path = os.path.join(ROOT, "bin", command)
     return subprocess.run([path, *words], stdout=subprocess.PIPE, stderr=subprocess.PIPE, **more)
 
 
-def found_in(text):
+def found_in(text: str) -> list[Finding]:
     return [finding for _, finding in lints.in_scenario(Scenario(json_text.read(text)))]
 
 
-def told_of(data):
+def told_of(data: Data) -> list[Any]:
     """The sentences of the lints that a scenario has, each with what slip it is of."""
     return [(one.told(), one.slip) for one in found_in(json.dumps(data))]
 
 
-def names_in(data, notes=False):
+def names_in(data: Data, notes: bool = False) -> list[str]:
     """The lints that a scenario has, by their names; of what a play does not look at where notes are asked for."""
     return sorted({one.lint.name for one in found_in(json.dumps(data)) if notes or not one.lint.is_note})
 
 
 # ---- the grammar
 
-def policy_lints(value):
+def policy_lints(value: str) -> list[Finding]:
     return [one for one in found_in(json.dumps(csp_of(value))) if not one.lint.is_note]
 
 
-def mended(data):
+def mended(data: Data) -> Any:
     return scenario_of(data).mended_policies(0)
 
 
-def scenario_of(data):
+def scenario_of(data: Data) -> Scenario:
     return Scenario(json_text.read(json.dumps(data)))
 
 
-def mend_all(data, own, unread):
+def mend_all(data: Data, own: Any, unread: Any) -> None:
     """Puts the mended texts in the place of a document's policies."""
-    advice.change_policies(data["documents"][0], lambda number, text: own[number].text)
+    advice.change_policies(data["documents"][0], lambda number, _: str(own[number].text))
     for one in unread:
         data["documents"][0]["headers"][one.at] = [one.name, one.mended.text]
 
 
-def played(data):
+def played(data: Data) -> Told:
     return asking.played(json.dumps(data).encode())[2]
 
 
 class Checks(base.Checks):
     # ---- the table
 
-    def test_table(self):
+    def test_table(self) -> None:
         names = [lint.name for lint in lints.table()]
         self.compare("lints that stand twice", sorted({name for name in names if names.count(name) > 1}), [])
         self.compare("lints without a case, and cases without a lint", sorted(set(names) ^ set(lint_cases.CASES)), [])
@@ -95,16 +101,16 @@ class Checks(base.Checks):
             if lint.name in lint_cases.CASES:
                 self.check_case(lint, *lint_cases.CASES[lint.name])
 
-    def check_case(self, lint, has, near):
+    def check_case(self, lint: Lint, has: Data, near: Data) -> None:
         self.compare(lint.name + ": what has it", names_in(has, lint.is_note), [lint.name])
         self.compare(lint.name + ": what nearly has it", names_in(near, lint.is_note), [])
         for finding in found_in(json.dumps(has)):
             says = any(": " + verb in finding.sentence for verb in FIXES)
             self.compare(lint.name + ": what to write: " + finding.sentence, says, True)
 
-    def test_star(self):
-        """Of `*` before requests with credentials the origins of the pages that send them are named, and nothing else would
-        do (Fetch, "CORS check")."""
+    def test_star(self) -> None:
+        """In the place of `*` before requests with credentials the origins of the pages that send them are named, and
+        nothing else would do (Fetch, "CORS check")."""
         star, include = [lint_cases.ORIGIN, "*"], cases.INCLUDE
         font = cases.load("font", crossorigin="use-credentials")
         rows = [
@@ -124,15 +130,15 @@ class Checks(base.Checks):
         part = "send `https://shop.test` or `https://news.test`, the one that asks, in its place, where the server"
         self.compare(f"`*`, asked by two: {told}", [part in one for one in told], [True])
 
-    def test_codings(self):
-        """Of a coded answer that caches keep the Vary is told that it lacks, with what is there."""
+    def test_codings(self) -> None:
+        """A coded answer that caches keep lacks a Vary, which is told with what is there."""
         for headers, options, wanted in lint_cases.CODED:
             data = lint_cases.answer(*headers, asks=[cases.fetch(**options)])
             told = [one.sentence for one in found_in(json.dumps(data)) if one.lint.name == "coding/vary-missing"]
             says = [f"send `Vary: {wanted}` with every answer of this URL" in one for one in told]
             self.compare(f"{headers}, asked with {options}: {told}", says, [True] if wanted else [])
 
-    def test_whole_values(self):
+    def test_whole_values(self) -> None:
         """What is advised for a value of Strict-Transport-Security keeps what it says besides, and has no fault; it is said
         once."""
         for value, *right in lint_cases.HSTS_MEANT:
@@ -147,16 +153,16 @@ class Checks(base.Checks):
         self.compare("quotes that came as bytes", names_in(data), ["hsts/typographic-quotes"])
         for value, name in lint_cases.HSTS_JOINED.items():
             self.compare(value, names_in(lint_cases.hsts(value)), [name])
-        for values, wanted in lint_cases.HSTS_TWICE:
-            found = found_in(json.dumps(lint_cases.answer(*([lint_cases.HSTS, value] for value in values))))
-            told = [one.sentence for one in found if one.lint.name == "hsts/sent-twice"]
-            self.compare(f"{values}", [one.partition("counts: ")[2] for one in told], [wanted])
-        for value, right in lint_cases.HSTS_PRELOADED.items():
-            found = [finding.sentence for finding in found_in(json.dumps(lint_cases.hsts(value)))]
-            self.compare(f"{value}: {found}", [f"write `{right}`" in one for one in found], [True])
-            self.compare(f"{right}: what is left", names_in(lint_cases.hsts(right)), [])
+        for values, counts in lint_cases.HSTS_TWICE:
+            found = found_in(json.dumps(lint_cases.answer(*([lint_cases.HSTS, own] for own in values))))
+            twice = [one.sentence for one in found if one.lint.name == "hsts/sent-twice"]
+            self.compare(f"{values}", [one.partition("counts: ")[2] for one in twice], [counts])
+        for value, meant in lint_cases.HSTS_PRELOADED.items():
+            sentences = [finding.sentence for finding in found_in(json.dumps(lint_cases.hsts(value)))]
+            self.compare(f"{value}: {sentences}", [f"write `{meant}`" in one for one in sentences], [True])
+            self.compare(f"{meant}: what is left", names_in(lint_cases.hsts(meant)), [])
 
-    def test_order(self):
+    def test_order(self) -> None:
         """What is wrong in a field is told in the order in which one mends it, by all commands; preload comes last."""
         for (origin, value), wanted in lint_cases.HSTS_ORDER.items():
             data = lint_cases.hsts(value, origin)
@@ -169,7 +175,7 @@ class Checks(base.Checks):
             places = [last.find(word) for word in words]
             self.compare(f"preload comes last: {last}", (-1 in places, places), (False, sorted(places)))
 
-    def test_pages(self):
+    def test_pages(self) -> None:
         """A page's own field: what is wrong with it, or the host as the scenario is to name it, if it does not yet."""
         for url, values, wanted in lint_cases.HSTS_PAGES:
             data = page(*([lint_cases.HSTS, value] for value in values), url=url)
@@ -181,7 +187,7 @@ class Checks(base.Checks):
         wide = '`{"host": "shop.test", "subdomains": true, "until": 9999999999}`'
         self.compare("the host of a page", [wide in one.sentence for one in found_in(json.dumps(data))], [True])
 
-    def test_grammar(self):
+    def test_grammar(self) -> None:
         self.compare("the directives", sorted(grammar.SOURCES + grammar.OTHERS), sorted(DIRECTIVES))
         self.compare("the directives that are gone", sorted(grammar.OBSOLETE), sorted(GONE))
         self.compare("the keywords", sorted(grammar.KEYWORDS), sorted(KEYWORDS))
@@ -194,7 +200,7 @@ class Checks(base.Checks):
         self.compare("directives and keywords without a policy that is right",
                      sorted({*DIRECTIVES, *(f"'{one}'" for one in KEYWORDS)} - words), [])
 
-    def test_misspelt(self):
+    def test_misspelt(self) -> None:
         """Each directive with a letter too few, and each keyword so and without its quotes, is told with the right word."""
         for name in DIRECTIVES:
             wrong = name[:3] + name[4:]
@@ -207,7 +213,7 @@ class Checks(base.Checks):
             near = [one for one in policy_lints(f"{where} '{wrong}'") if f"`'{word}'`" in one.sentence]
             self.compare(f"the keyword {word}, without quotes and misspelt", (len(bare), len(near)), (1, 1))
 
-    def test_names_behind(self):
+    def test_names_behind(self) -> None:
         """Words that end in the name of a directive: where it begins another it is told, and else not."""
         for word, source in lint_cases.BEFORE_NAME.items():
             self.compare("what stands before a name in " + word, grammar.before_name(word), source)
@@ -217,22 +223,22 @@ class Checks(base.Checks):
                 self.compare(f"{word}: {told}", says, True)
         self.compare("words of report-to", policy_lints("img-src 'self'; report-to 'a'img-src"), [])
 
-    def test_commas(self):
+    def test_commas(self) -> None:
         """A comma that is meant for a semicolon, and where it is told; two policies that are meant are left."""
         for value, name in lint_cases.COMMAS.items():
             text = json.dumps(csp_of(value))
             told = [(text[place - 2:place], finding) for place, finding in lints.in_scenario(Scenario(json_text.read(text)))
-                    if finding.lint.name == "csp/comma-for-semicolon"]
+                    if place is not None and finding.lint.name == "csp/comma-for-semicolon"]
             self.compare(value + ": where", [before for before, _ in told], [", "] if name else [])
             for _, finding in told:
                 self.compare(value + ": what", f"`{name}` does not widen `default-src`" in finding.sentence, True)
 
-    def test_spelt(self):
+    def test_spelt(self) -> None:
         for data, part in lint_cases.SPELT:
             told = [one.sentence for one in found_in(json.dumps(data))]
             self.compare(f"{part}: {told}", [part in one for one in told], [True])
 
-    def test_places(self):
+    def test_places(self) -> None:
         """The place of each word in the text of a scenario, where escapes stand before it."""
         value = "font-src \u00e9\";\t img-src self,, \U0001f600; script-src a.test self, style-src a.testimg-src self"
         for is_ascii in (True, False):
@@ -244,7 +250,7 @@ class Checks(base.Checks):
 
     # ---- what is meant
 
-    def test_mending(self):
+    def test_mending(self) -> None:
         """Each lint of a policy is mended, or has a reason why not; then none is left. Nothing that is right changes."""
         names = {lint.name for lint in lints.table() if lint.name.startswith("csp/") and not lint.is_note}
         known = set(lint_cases.UNMENDED)
@@ -259,14 +265,14 @@ class Checks(base.Checks):
                 self.compare(f"{name}: what is left of it: {own}", names_in(data), [])
         for value in lint_cases.RIGHT:
             self.compare("what is right is left as it is", [one.text for one in mended(csp_of(value))], [value])
-        for data, name in lint_cases.TOLD_ONCE:
-            self.compare("what one change mends is told once", names_in(data), [name] if name else [])
+        for data, once in lint_cases.TOLD_ONCE:
+            self.compare("what one change mends is told once", names_in(data), [once] if once else [])
         for value, wanted in lint_cases.MENDED.items():
             self.compare("what is meant by " + value, [one.text for one in mended(csp_of(value)) if one.text], [wanted])
 
     # ---- what is counted
 
-    def test_alike(self):
+    def test_alike(self) -> None:
         """What one slip makes often is told twice, and counted then, also where its header stands again; with one more
         it is told whole."""
         for value, count in lint_cases.ALIKE.items():
@@ -286,7 +292,7 @@ class Checks(base.Checks):
 
     # ---- what comes of it
 
-    def test_plays(self):
+    def test_plays(self) -> None:
         """What a lint says of a field, an origin and an integrity text is what the program makes of it."""
         meant = {value: [lint_cases.hsts(value)] for value, *_ in lint_cases.HSTS_MEANT}
         for name, pair in {**lint_cases.HSTS_CASES, **meant}.items():
@@ -308,7 +314,7 @@ class Checks(base.Checks):
 
     # ---- stored scenarios, and what costs much
 
-    def test_stored(self):
+    def test_stored(self) -> None:
         seen = {}
         paths = [glob.glob(os.path.join(ROOT, form)) for form in ("gallery/*/scenario.json", "examples/*.json")]
         for path in sum(paths, []):
@@ -322,11 +328,11 @@ class Checks(base.Checks):
             self.compare(name + ": its lints", seen.get(name, []), listed.get(name, []))
         self.counted(f"{len(seen)} stored scenarios")
 
-    def test_costs(self):
+    def test_costs(self) -> None:
         rows = [
             ("a policy of 18,000 words", csp_of("img-src " + "a.test " * 18000)),
-            ("one of 14,000 directives", csp_of("; ".join("scrpt%d" % (number % 97) for number in range(14000)))),
-            ("200 words behind many escapes", csp_of("img-src %s%s" % ("a.test\u00a0 " * 9000, "self; img-src " * 200))),
+            ("one of 14,000 directives", csp_of("; ".join(f"scrpt{number % 97}" for number in range(14000)))),
+            ("200 words behind many escapes", csp_of("img-src " + "a.test\u00a0 " * 9000 + "self; img-src " * 200)),
             ("one that is too long", csp_of("img-src " + "a.test " * 400000)),
             ("30,000 headers", page(*([f"C-Security-Policy-{number}", "a"] for number in range(30000)))),
             ("30,000 fields of HSTS", lint_cases.answer(*[[lint_cases.HSTS, "max-age=1"]] * 30000)),
@@ -342,7 +348,7 @@ class Checks(base.Checks):
 
     # ---- the commands
 
-    def test_why(self):
+    def test_why(self) -> None:
         data = lint_cases.CASES["csp/unknown-directive"][0]
         told = ran("why", input=json.dumps(data, indent=1).encode()).stdout.decode().splitlines()
         says = told[0].startswith("# warning: standard input:") and "`script-scr` is no directive" in told[0]
@@ -350,8 +356,8 @@ class Checks(base.Checks):
         line, column = map(int, told[0].split(":")[2:4])
         row = json.dumps(data, indent=1).splitlines()[line - 1]
         self.compare("the place", row[column - 1:].startswith("script-scr 'self'"), True)
-        says = (told[0].endswith(" (csp/unknown-directive)"), f": {cases.POLICY} of {PAGE}/: `script" in told[0])
-        self.compare(f"bin/why: the lint, the header and the URL: {told[:1]}", says, (True, True))
+        both = (told[0].endswith(" (csp/unknown-directive)"), f": {cases.POLICY} of {PAGE}/: `script" in told[0])
+        self.compare(f"bin/why: the lint, the header and the URL: {told[:1]}", both, (True, True))
         warnings = json.loads(ran("why", "--json", input=json.dumps(data).encode()).stdout)["warnings"]
         self.compare("--json", ["`script-scr`" in one["sentence"] for one in warnings], [True])
         self.compare("--json: the lint, the header and the URL", [(one["lint"], one["header"], one["url"]) for one in warnings],
@@ -363,7 +369,7 @@ class Checks(base.Checks):
         listed = [re.match(r"(\S+) \((.*?)\): ", line).groups() for line in told]
         self.compare("--lints: what each looks at", listed, [(lint.name, lint.looks_at) for lint in lints.table()])
 
-    def test_net(self):
+    def test_net(self) -> None:
         head = b"HTTP/1.1 200 OK\r\nAccess-Control-Allow-Origin: %s\r\nContent-Length: 0\r\n%s\r\n"
         with net_peers.Peer(head % (b"https://shop.test", b"")) as peer:
             told = ran("why", "--net", input=json.dumps(peer.scenario()).encode()).stdout.decode()
@@ -371,22 +377,23 @@ class Checks(base.Checks):
                          and "send `Vary: Origin` with every answer of this URL, also a refusal (cors/vary-missing)\n" in told,
                          True)
         with net_peers.Peer(head % (b"https://shop.test", b"vary: Accept, Origin\r\n")) as peer:
-            told = ran("why", "--net", input=json.dumps(peer.scenario()).encode()).stdout
-            self.compare("with Vary", b"# warning" in told, False)
+            told = ran("why", "--net", input=json.dumps(peer.scenario()).encode()).stdout.decode()
+            self.compare("with Vary", "# warning" in told, False)
         with net_peers.Peer(b"HTTP/1.1 304 Not Modified\r\nAccess-Control-Allow-Origin: *\r\n\r\n") as peer:
             told = ran("why", "--net", input=json.dumps(peer.scenario()).encode()).stdout.decode()
-            says = "# warning: https://api.test/x: status: 304 answers a request with If-None-Match or If-Modified-Since" in told
-            self.compare("a 304 that was not asked for: " + told, says, True)
-        for words, status in [((), 0), (("--strict",), 1)]:
+            part = "# warning: https://api.test/x: status: 304 answers a request with If-None-Match or If-Modified-Since"
+            self.compare("a 304 that was not asked for: " + told, part in told, True)
+        rows: list[tuple[list[str], int]] = [([], 0), (["--strict"], 1)]
+        for words, status in rows:
             wrong = b"Access-Control-Allow-Orgin: *\r\nVary: Origin\r\n"
             with net_peers.Peer(head % (b"https://shop.test", wrong)) as peer:
                 test = {"scenario": peer.scenario(), "expect": {"fetch 0": "read"}}
-                told = ran("expect", "--net", *words, input=json.dumps(test).encode())
-            says = b"write `Access-Control-Allow-Origin`" in told.stdout
-            self.compare(f"bin/expect --net {words}: {told.stdout}", (told.returncode, says), (status, True))
+                met = ran("expect", "--net", *words, input=json.dumps(test).encode())
+            says = b"write `Access-Control-Allow-Origin`" in met.stdout
+            self.compare(f"bin/expect --net {words}: {met.stdout!r}", (met.returncode, says), (status, True))
 
-    def test_expect(self):
-        """Without --strict a fault warns alone; with it the test is not met, but for what a play does not look at."""
+    def test_expect(self) -> None:
+        """Without --strict a fault warns alone; with it the test is not met, except what a play does not look at."""
         wrong, unplayed = (cases.scenario(cases.fetch(), [cases.rule(200, [cases.OK])], headers=[[cases.POLICY, value]])
                            for value in ("conect-src 'self'", "frame-ancestors 'none'"))
         for data, words, status, part in [
@@ -401,7 +408,7 @@ class Checks(base.Checks):
         told = json.loads(ran("expect", "--json", input=test.encode()).stdout)
         self.compare("bin/expect --json", (told[0]["ok"], len(told[0]["warnings"])), (True, 1))
 
-    def test_notes(self):
+    def test_notes(self) -> None:
         """What bin/ask says of its words and of an answer, once."""
         data = cases.scenario([cases.fetch()] * 2, [cases.rule(200, [cases.OK, ["Access-Control-Max-Age", "one"]])],
                               headers=[[cases.POLICY, "conect-src 'self'; img-src *"]])
@@ -409,10 +416,10 @@ class Checks(base.Checks):
                      ["`conect-src` is no directive, and is skipped", "`one` is no number of seconds",
                       "https://api.test/x", "https://api.test/x"])
 
-    def test_counts(self):
+    def test_counts(self) -> None:
         self.counted(f"{len(lints.table())} lints, each with a case that has it and one that nearly has it")
         self.counted(f"{len(DIRECTIVES + KEYWORDS + GONE)} directives and keywords of CSP's grammar")
 
 
-def main():
+def main() -> int:
     return base.main("commands/check_lints", __name__)

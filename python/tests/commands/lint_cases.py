@@ -1,6 +1,11 @@
 """For each lint a scenario that has it and one that nearly has it; and policies that are right, which have none."""
+from __future__ import annotations
+
+from typing import Any, Optional, Sequence
+
 from fiorrudda.commands.lints import csp, grammar
 from tests.commands import cases
+from tests.commands.cases import Data, Header
 
 PAGE, API = cases.PAGE, cases.API
 POLICY, REPORT_ONLY = "Content-Security-Policy", "Content-Security-Policy-Report-Only"
@@ -17,57 +22,57 @@ OWN_WORDS = {"report-to": "csp", "require-trusted-types-for": "'script'", "webrt
              "trusted-types": "one"}
 
 
-def page(*headers, asks=(), url=PAGE + "/"):
+def page(*headers: Header, asks: Sequence[Data] = (), url: str = PAGE + "/") -> Data:
     """A document with these headers, and what its script asks for."""
     return cases.scenario(list(asks), page=url, headers=headers)
 
 
-def csp_of(value, **more):
+def csp_of(value: str, **more: Any) -> Data:
     return page([POLICY, value], **more)
 
 
-def report_only(value, *headers, **more):
+def report_only(value: str, *headers: Header, **more: Any) -> Data:
     return page([REPORT_ONLY, value], *headers, **more)
 
 
-def answer(*headers, asks=None, origin=API, **more):
+def answer(*headers: Header, asks: Optional[list[Data]] = None, origin: str = API, **more: Any) -> Data:
     """A server that answers so, and a page that asks."""
     asks = [cases.fetch(origin + "/x")] if asks is None else asks
     return cases.scenario(asks, [cases.rule(200, headers, **more)], origin)
 
 
-def cors(value, *headers, **more):
+def cors(value: str, *headers: Header, **more: Any) -> Data:
     return answer([ORIGIN, value], *headers, **more)
 
 
 WITH = [cases.fetch(**cases.INCLUDE)]
 
 
-def hsts(value, origin=API):
+def hsts(value: str, origin: str = API) -> Data:
     return answer([HSTS, value], origin=origin)
 
 
-def asked_by_two(*headers):
+def asked_by_two(*headers: Header) -> Data:
     """One URL, for which pages of two origins ask."""
     data = answer([ORIGIN, PAGE], *headers)
     other = cases.scenario(cases.fetch(), page="https://other.test/")["documents"]
     return {**data, "documents": data["documents"] + other}
 
 
-def preflighted(value, name):
+def preflighted(value: str, name: str) -> Data:
     """What is answered to the preflight of a fetch with this header."""
     return answer([ORIGIN, "*"], [HEADERS, value], asks=[cases.fetch(headers=[[name, "1"]])], method="OPTIONS")
 
 
-def text(value, **more):
+def text(value: str, **more: Any) -> Data:
     return page(asks=[cases.fetch(PAGE + "/x", integrity=value, **more)])
 
 
-def element(kind, url, **more):
+def element(kind: str, url: str, **more: Any) -> Data:
     return page(asks=[cases.load(kind, url, integrity="sha256-" + SHA256, **more)])
 
 
-def asking(value, url, page_url=PAGE + "/"):
+def asking(value: str, url: str, page_url: str = PAGE + "/") -> Data:
     return csp_of(value, asks=[cases.fetch(url)], url=page_url)
 
 
@@ -179,7 +184,7 @@ CSP_URLS = {
     "csp/no-word": (csp_of("img-src https://a_b.test"), csp_of("img-src https://a-b.test")),
 }
 NOTES = {
-    **{"csp/not-played-" + name: (csp_of("connect-src 'self'; %s %s" % (name, OWN_WORDS.get(name, "'self'"))),
+    **{"csp/not-played-" + name: (csp_of(f"connect-src 'self'; {name} " + OWN_WORDS.get(name, "'self'")),
                                   csp_of("connect-src 'self'")) for name in csp.NOT_PLAYED},
     "csp/report-to-and-uri": (page([POLICY, "img-src 'self'; report-uri /csp; report-to csp"], ENDPOINTS),
                               csp_of("img-src 'self'; report-uri /csp")),
@@ -188,7 +193,7 @@ NOTES = {
 }
 CORS_ORIGINS = {
     "cors/origin-twice": (cors(PAGE, [ORIGIN, PAGE]), cors(PAGE)),
-    "cors/origin-quotes": (cors('"%s"' % PAGE), cors(PAGE)),
+    "cors/origin-quotes": (cors(f'"{PAGE}"'), cors(PAGE)),
     "cors/origin-list": (cors("https://a.test, https://b.test"), cors("https://a.test")),
     "cors/origin-path": (cors(PAGE + "/"), cors(PAGE + ":8443")),
     "cors/origin-capitals": (cors("https://Shop.test"), cors(PAGE)),

@@ -1,8 +1,11 @@
 """Servers on the loopback that do what the check of bin/why --net wants: one answer, or none, in one of many ways."""
+from __future__ import annotations
+
 import contextlib
 import socket
 import struct
 import threading
+from typing import Optional, Union
 
 from tests import sockets
 from tests.commands import cases
@@ -10,24 +13,25 @@ from tests.commands import cases
 WORDS = ("closed", "full", "hang", "reset", "broken", "stalled")
 # Seconds for those that never answer, or not to the end; the others have long.
 SILENT, LONG = {"full": 1, "hang": 1, "stalled": 5}, 60
+Kind = Union[bytes, str, None]
 
 
-def patience_for(kind):
-    return SILENT.get(kind, LONG)
+def patience_for(kind: Kind) -> int:
+    return SILENT.get(kind, LONG) if isinstance(kind, str) else LONG
 
 
 class Peer:
     """`kind` is what it answers (bytes), a word for what else it does, an address that is none, or None for no
     route."""
 
-    def __init__(self, kind):
+    def __init__(self, kind: Kind):
         self.kind = kind
-        self.listener = None
-        self.open = []
+        self.listener: Optional[socket.socket] = None
+        self.open: list[socket.socket] = []
         self.stack = contextlib.ExitStack()
         self.address = kind if isinstance(kind, str) else None
 
-    def __enter__(self):
+    def __enter__(self) -> Peer:
         if self.kind is None or (isinstance(self.kind, str) and self.kind not in WORDS):
             return self
         if self.kind == "closed":
@@ -42,12 +46,12 @@ class Peer:
             threading.Thread(target=self.serve, daemon=True).start()
         return self
 
-    def __exit__(self, *error):
+    def __exit__(self, *error: object) -> None:
         self.stack.close()
         for one in self.open:
             one.close()
 
-    def fill(self):
+    def fill(self) -> None:
         """Connects until no more are taken."""
         for _ in range(16):
             self.open.append(socket.socket())
@@ -57,7 +61,7 @@ class Peer:
             except socket.timeout:
                 return
 
-    def serve(self):
+    def serve(self) -> None:
         peer, _ = self.listener.accept()
         text = b""
         while b"\r\n\r\n" not in text:
@@ -79,12 +83,12 @@ class Peer:
         else:
             peer.close()
 
-    def said(self):
+    def said(self) -> bytes:
         if self.kind in ("broken", "stalled"):
             return b"HTTP/1.1 200 OK\r\nAccess-Control-Allow-Origin: *\r\nContent-Length: 9\r\n\r\nhi"
-        return b"" if self.kind == "reset" else self.kind
+        return self.kind if isinstance(self.kind, bytes) else b""
 
-    def scenario(self):
+    def scenario(self) -> cases.Data:
         origin = cases.API if self.kind != b"" else "https://api.test:8443"
         routes = [] if self.address is None else [[origin, self.address]]
         return cases.scenario(cases.fetch(origin + "/x"), routes=routes)

@@ -4,14 +4,14 @@
     gallery/rows write    appends the rows that are missing to stdin and stdout of the crate, renews those that differ,
                           takes out those of scenarios that are gone, and then checks
 
-Of each folder NAME of gallery/ the stored input has a title and the row below it,
+The stored input has for each folder NAME of gallery/ a title and the row below it,
 
     # gallery/NAME: the question, which is the title of gallery/NAME/README.md
     the scenario as compact JSON, the same value as gallery/NAME/scenario.json
 
-and the stored output the same title, `status 0` and the play, which is gallery/NAME/play.txt. Of documents on threads
-that call the shared book the printed text may differ from run to run. Such rows have a word before the scenario (see
-crates/rows_links/src/inputs.rt), and the stored output what is printed of every such play.
+and the stored output the same title, `status 0` and the play, which is gallery/NAME/play.txt. Where documents on
+threads call the shared book, the printed text may differ from run to run. Such rows have a word before the scenario
+(see crates/rows_links/src/inputs.rt), and the stored output what is printed of every such play.
 
 A folder that has the reports of its scenario, reports.txt, has the same title once more, further down, with a row that
 has the word `report` before the scenario; the stored output there is `status 0` and the reports.
@@ -39,7 +39,7 @@ MARK = "# gallery/"
 WORDS = {"tabs-apart": "shared", "tabs-share": "joint"}
 # Behind the name of a folder: the row and the stored output with its reports.
 REPORTS = ", reports"
-# Of each row of the stored run its title, the row, and what the stored output has below the title.
+# Each row of the stored run: its title, the row, and what the stored output has below the title.
 Rows = Dict[str, Tuple[str, str, str]]
 
 
@@ -114,7 +114,7 @@ def own_faults(play: str, reports: str | None, page: str) -> Iterator[str]:
 
 
 def wanted(name: str) -> tuple[Rows, list[str]]:
-    """Of the play, and of the reports, the title, the row, and what the stored output has below the title; and the
+    """The title, the row, and what the stored output has below the title, for the play and for the reports; and the
     folder's own faults."""
     folder = os.path.join(HERE, name)
     page = read(os.path.join(folder, "README.md"))

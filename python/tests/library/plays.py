@@ -134,7 +134,7 @@ def came(outcome: Outcome, loads: bool) -> scripts.Last:
 
 
 def stored(folders: list[str]) -> Iterator[tuple[str, bytes, str]]:
-    """Stored plays: the name, the scenario's bytes, the text. Of the gallery, and of folders of NAME.json, NAME.out."""
+    """Stored plays of the gallery, and of folders of NAME.json, NAME.out: the name, the scenario's bytes, the text."""
     gallery = pathlib.Path(ROOT) / "gallery"
     pairs = [(it, it.parent / "play.txt") for it in sorted(gallery.glob("*/scenario.json"))]
     pairs += [(it, it.with_suffix(".out")) for folder in folders for it in sorted(pathlib.Path(folder).glob("*.json"))]

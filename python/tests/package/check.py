@@ -64,7 +64,7 @@ def inside(root: pathlib.Path, *words: str, **more: Any) -> Done:
 
 
 def all_files(root: pathlib.Path) -> set[str]:
-    """What is in the root but for what dpkg and the machine write by themselves."""
+    """What is in the root except what dpkg and the machine write by themselves."""
     own = ("var/lib/dpkg", "var/log", "var/cache", "tmp", "root", "proc", "sys", "dev")
     found = (os.path.relpath(os.path.join(folder, name), root) for folder, _, names in os.walk(root) for name in names)
     return {path for path in found if not path.startswith(own)}

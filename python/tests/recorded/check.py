@@ -5,7 +5,7 @@
 - Each way of a refusal that a recording tells is named, where a play of its scenario is written as either browser
   writes it.
 - Where recordings are made of what Chromium and Firefox really did (browsers/corpus), nothing that came is told as
-  refused, nothing that failed as passed, but for what no recording tells; the causes are those of the browsers' own
+  refused, nothing that failed as passed, except what no recording tells; the causes are those of the browsers' own
   reasons, and each other difference has its rule in docs/BROWSERS.md.
 - A recording of real pages by Chromium (recorded/real/record_planted), each with the failure of a way, names that first,
   or a recording cannot tell it.
@@ -29,6 +29,8 @@
 - On a terminal a line tells how far it is, after two seconds.
 
 It needs python3 (3.9 or later). Plays are made by bin/fetchplay, or by the program that FETCHPLAY names."""
+from __future__ import annotations
+
 import glob
 import gzip
 import io
@@ -44,12 +46,15 @@ import subprocess
 import sys
 import tempfile
 import time
+from typing import Any, Callable, Iterator, Optional
 
 from fiorrudda.commands import asking, explanations, json_text, running
+from fiorrudda.commands.case import Case
 from fiorrudda.commands.schema import Schema
 from fiorrudda.places import ROOT
 from fiorrudda.recorded import (browser_rules, changes, differences, flows, har, judging, line_of, lines, listed,
                                 meta_policies, plays, progress, served, telling, verdicts, workers)
+from fiorrudda.recorded.listed import Listed
 from tests import base
 from tests.commands import pipes
 from tests.recorded import hostile, made, recordings, stored
@@ -63,24 +68,34 @@ REAL = {"dokuwiki.chromium.har.gz": {"passed": 275}, "dokuwiki.firefox.har.gz": 
         "phpmyadmin.chromium.har.gz": {"passed": 398, "open": 1}, "phpmyadmin.firefox.har.gz": {"passed": 446}}
 REAL_FLOWS = {"dokuwiki.flow.gz": {"passed": 229}}
 
+# What CORS headers an answer lacks, by its URLs and its method: the name, the value, what it replaces, and the way of the
+# refusal without it.
+CorsHeaders = dict[tuple[str, str], list[tuple[str, str, Optional[str], Optional[str]]]]
+CorsRow = tuple[str, dict[str, Any], CorsHeaders]
 
-def data_of(name):
+
+def data_of(name: str) -> bytes:
     with open(os.path.join(CASES, name), "rb") as file:
         return file.read()
 
 
-def ran(*words, **more):
+def ran(*words: str, **more: Any) -> subprocess.CompletedProcess[bytes]:
     return subprocess.run([os.path.join(ROOT, "bin", "har"), *words], stdout=subprocess.PIPE, stderr=subprocess.PIPE,
                           **more)
 
 
-def judged(data, **changed):
+def judged(data: Any, **changed: Any) -> dict[str, Any]:
     return judging.judge(har.read(json.dumps(data).encode()), changes.Changes(**changed))
+
+
+def played_of(data: dict[str, Any]) -> list[Case]:
+    """The cases of a scenario's play. All are asked for, so none is left out."""
+    return [case for case in plays.cases_of(data) if case is not None]
 
 
 # ---- what if
 
-def change_rows():
+def change_rows() -> list[tuple[str, Any, dict[str, Any], list[tuple[str, str, str, int]], bool]]:
     """Recordings with changes, the groups of what these change, and whether that breaks something."""
     page = recordings.page(recordings.script("https://cdn.test/a.js"), recordings.script("https://shop.test/b.js"),
                            recordings.image("https://img.test/a.png", initiator="https://cdn.test/a.js"),
@@ -116,7 +131,7 @@ def change_rows():
 
 # ---- the least CORS headers
 
-def preflight_rows():
+def preflight_rows() -> Iterator[CorsRow]:
     """Recordings with the headers that the answers lack: by the URL and the method the header, what it replaces, and
     the way of the refusal without it. These have preflights."""
     shop, api, allow = recordings.SHOP, "https://api.test", "Access-Control-Allow-"
@@ -139,7 +154,7 @@ def preflight_rows():
     yield from star_rows()
 
 
-def star_rows():
+def star_rows() -> Iterator[CorsRow]:
     """A `*` in a list: with credentials it is no wildcard, so that names stand in its place, as bin/why has it; those
     too of a request without credentials, which passes by the `*` now (Fetch, "CORS-preflight fetch")."""
     shop, url, allow = recordings.SHOP, "https://api.test/x", "Access-Control-Allow-"
@@ -167,7 +182,7 @@ def star_rows():
                        (allow + "Credentials", "true", None, "cors/credentials-absent")]}
 
 
-def answer_rows():
+def answer_rows() -> Iterator[CorsRow]:
     """The same without preflights."""
     shop, api, allow = recordings.SHOP, "https://api.test", "Access-Control-Allow-"
     entry, failed, origin = recordings.entry, recordings.failed, (allow + "Origin", shop, None, "cors/absent")
@@ -194,36 +209,39 @@ def answer_rows():
         yield "a font", json.load(file), {("https://cdn.test/f.woff2", "GET"): [origin, ("Vary", "Origin", None, None)]}
 
 
-def headers_told(found):
+def headers_told(found: dict[str, Any]) -> CorsHeaders:
     """The headers of suggestions, as the rows have them."""
     return {(group["urls"], answer["method"]): [
         (one["name"], one["value"], one["replaces"], one["without"] and one["without"]["way"])
         for one in answer["headers"]] for group in found["groups"] for answer in group["answers"]}
 
 
-def suggested_cors(data, origin=recordings.SHOP, **changed):
+def suggested_cors(data: Any, origin: str = recordings.SHOP, **changed: Any) -> dict[str, Any]:
     recording = har.read(json.dumps(data).encode())
-    return judging.suggest_cors(recording, origin, changes.Changes(**changed))["suggested_cors"]
+    found: dict[str, Any] = judging.suggest_cors(recording, origin, changes.Changes(**changed))["suggested_cors"]
+    return found
 
 
-def firefox(*entries):
+def firefox(*entries: Any) -> dict[str, Any]:
     """A page as Firefox's tools write it, which tell no error."""
     data = recordings.page(*entries)
     return {"log": {**data["log"], "creator": {"name": "Firefox"}}}
 
 
-def suggested_hsts(data, **changed):
-    return judging.suggest_hsts(har.read(json.dumps(data).encode()), changes.Changes(**changed))["suggested_hsts"]
+def suggested_hsts(data: Any, **changed: Any) -> dict[str, Any]:
+    recording = har.read(json.dumps(data).encode())
+    found: dict[str, Any] = judging.suggest_hsts(recording, changes.Changes(**changed))["suggested_hsts"]
+    return found
 
 
-def told_origins(under):
+def told_origins(under: dict[str, Any]) -> list[tuple[Any, ...]]:
     return [(one["from"], one["entries"], one["answered"], one["failed"], one["fails"], one["port_stays"])
             for one in under["origins"]]
 
 
-def first_told(finding):
+def first_told(finding: dict[str, Any]) -> str:
     """The way of a finding, or why there is none; of what is supposed that is said."""
-    why = finding["why"]["way"] if finding["why"] else finding["told"]
+    why: str = finding["why"]["way"] if finding["why"] else finding["told"]
     return why + (", supposed" if finding["certainty"] == "supposed" else "")
 
 
@@ -234,25 +252,25 @@ SOME = ("corp.firefox.har", "cors-no-header.chromium.har", "csp-script-src.firef
         "preflight-status.chromium.har")
 
 
-def wrote(path, data):
+def wrote(path: str, data: bytes) -> None:
     with open(path, "wb") as file:
         file.write(data)
 
 
-def content(path):
+def content(path: str) -> bytes:
     with open(path, "rb") as file:
         return file.read()
 
 
-def rows_of(text):
+def rows_of(text: bytes) -> list[Any]:
     return [json.loads(line) for line in text.splitlines()]
 
 
-def dying(room, name, most):
+def dying(room: str, name: str, most: int) -> Callable[[Listed], bytes]:
     """The work of a process that is killed by the recording of this name, so many times."""
     real = lines.work(changes.NONE)
 
-    def of(one):
+    def of(one: Listed) -> bytes:
         marks = glob.glob(os.path.join(room, "death-*"))
         if name in one.name and len(marks) < most:
             wrote(os.path.join(room, f"death-{len(marks)}"), b"")
@@ -266,21 +284,21 @@ def dying(room, name, most):
 class Terminal(io.StringIO):
     """What is written to a terminal, or to what is none."""
 
-    def __init__(self, is_terminal):
+    def __init__(self, is_terminal: bool):
         super().__init__()
         self.is_terminal = is_terminal
 
-    def isatty(self):
+    def isatty(self) -> bool:
         return self.is_terminal
 
 
-def flow_refusal(data, hidden=""):
+def flow_refusal(data: bytes, hidden: str = "") -> str:
     """Why bytes are no flow file, where a module is hidden perhaps."""
     kept = {name: one for name, one in sys.modules.items() if hidden and name.split(".")[0] == hidden}
     for name in kept:
         del sys.modules[name]
     if hidden:
-        sys.modules[hidden] = None
+        sys.modules[hidden] = None  # type: ignore[assignment]  # so that its import fails
     try:
         har.read(data)
         return ""
@@ -291,7 +309,7 @@ def flow_refusal(data, hidden=""):
         sys.modules.update(kept)
 
 
-def setUpModule():
+def setUpModule() -> None:
     """Builds the program where it must be, and then calls it without what looks whether it is new."""
     if "FETCHPLAY" not in os.environ:
         running.played(b'{"format":1,"documents":[]}')
@@ -301,17 +319,17 @@ def setUpModule():
 class Checks(base.Checks):
     # ---- what was planted
 
-    def test_cases(self):
+    def test_cases(self) -> None:
         with open(os.path.join(CASES, "wanted.json"), encoding="utf-8") as file:
             wanted = json.load(file)
         names = sorted(os.path.basename(path) for path in glob.glob(os.path.join(CASES, "*.har")))
         self.compare("the recordings of recorded/cases", names, sorted(wanted))
-        known = {None, *(way.name for way in explanations.TABLE)}
+        known: set[Optional[str]] = {None, *(way.name for way in explanations.TABLE)}
         for name in names:
             self.check_case(name, wanted[name], known)
         self.counted(f"{len(names)} recordings with what was planted in them")
 
-    def check_case(self, name, wanted, known):
+    def check_case(self, name: str, wanted: dict[str, Any], known: set[Optional[str]]) -> None:
         found = judging.judge(har.read(data_of(name)))
         self.compare(f"{name}: the pages", len(found["pages"]), 1)
         findings = {one["url"]: one for page in found["pages"] for one in page["findings"]}
@@ -326,12 +344,12 @@ class Checks(base.Checks):
         self.compare(f"{name}: where it parts", rules, wanted.get("parts", []))
         self.compare(f"{name}: whether something failed", int(judging.fails(found)), wanted["status"])
 
-    def test_ways(self):
+    def test_ways(self) -> None:
         """Each way that a recording tells, as both browsers write it: a play of its scenario is made a recording."""
         count = 0
         for name, data in made.told_ways():
             data["documents"][0].setdefault("headers", [])
-            played = plays.cases_of(data)
+            played = played_of(data)
             self.compare(f"{name}: the play", verdicts.way_of(played[0]), name)
             for browser in made.CREATORS:
                 found = judging.judge(har.read(json.dumps(made.recording(data, played, browser)).encode()))
@@ -343,7 +361,7 @@ class Checks(base.Checks):
                 count += 1
         self.counted(f"{count} of plays, each with its way")
 
-    def test_planted(self):
+    def test_planted(self) -> None:
         """Pages that Chromium really loaded, each with the failure of a way: it is told first, or what is told is true."""
         data = content(os.path.join(ROOT, "recorded", "real", "planted.chromium.har.gz"))
         found = {page["url"]: page["findings"] for page in judging.judge(har.read(data))["pages"]}
@@ -356,21 +374,22 @@ class Checks(base.Checks):
             named += told == page.way
         self.counted(f"{named} of {len(pages)} pages that Chromium loaded, with the way that was planted")
 
-    def test_browsers(self):
+    def test_browsers(self) -> None:
         """What is said of recordings of what browsers really did: nothing that came is told as refused, nothing that
         failed as passed, and each other difference has its rule."""
-        counts, tables = {}, stored.reasons()
+        counts: dict[str, list[int]] = {}
+        tables = stored.reasons()
         for browser in made.CREATORS:
             found = [self.check_stored(one, tables[browser]) for one in stored.all_of(browser)]
             counts[browser] = [sum(column) for column in zip(*found)]
         came, causes = map(sum, zip(*counts.values()))
         self.counted(f"{came} requests of browsers as they came, {causes} of them with their cause")
 
-    def check_stored(self, one, reasons):
+    def check_stored(self, one: stored.Stored, reasons: list[tuple[str, list[str]]]) -> tuple[int, int]:
         """How many commands were compared, and of how many the cause was."""
         count, cause_count = 0, 0
         found = judging.judge(har.read(json.dumps(one.data).encode()))
-        told = {}
+        told: dict[Optional[int], list[dict[str, Any]]] = {}
         for page in found["pages"]:
             for finding in page["findings"]:
                 told.setdefault(one.owners.get(finding["entry"]), []).append(finding)
@@ -391,7 +410,7 @@ class Checks(base.Checks):
                     cause_count += 1
         return count, cause_count
 
-    def test_what_if(self):
+    def test_what_if(self) -> None:
         """What a policy would break, of recordings that were made without it, is what both browsers refused under it; where
         they did otherwise, that is told by its rule."""
         count = 0
@@ -403,9 +422,9 @@ class Checks(base.Checks):
                     count += self.check_policy(one, free, policy)
         self.counted(f"{count} under a policy that was not there")
 
-    def check_policy(self, one, free, policy):
+    def check_policy(self, one: stored.Stored, free: dict[str, Any], policy: str) -> int:
         """How many commands were compared: those that pass without the policy."""
-        played, count, at = plays.cases_of(free), 0, 1
+        played, count, at = played_of(free), 0, 1
         data = made.recording(free, played, one.browser)
         found = judging.judge(har.read(json.dumps(data).encode()), changes.Changes(csp=policy))
         broken = {other["entry"]: other for other in found["differences"] if other["kind"] == "broken"}
@@ -420,7 +439,7 @@ class Checks(base.Checks):
                 count += 1
         return count
 
-    def test_rules(self):
+    def test_rules(self) -> None:
         with open(os.path.join(ROOT, "docs", "BROWSERS.md"), encoding="utf-8") as file:
             text = file.read()
         unknown = [rule.name for rule in browser_rules.RULES if f"[`{rule.name}`]" not in text]
@@ -428,7 +447,7 @@ class Checks(base.Checks):
 
     # ---- the command
 
-    def test_command(self):
+    def test_command(self) -> None:
         path = os.path.join(CASES, "cors-star-with-credentials.firefox.har")
         told = ran(path)
         lines = told.stdout.decode().splitlines()
@@ -460,7 +479,7 @@ class Checks(base.Checks):
             said = told.stderr.decode()
             self.compare(f"{words[1:] or words}: {said}", (told.returncode, part in said, told.stdout), (2, True, b""))
 
-    def check_short(self):
+    def check_short(self) -> None:
         """What stands in a line: which answer is meant, what all of them need as far as they are recorded, and policies
         with all changes."""
         rows = [("redirect-to-another-origin.firefox.har",
@@ -488,7 +507,7 @@ class Checks(base.Checks):
         found = judged(recordings.page(misspelt))["pages"][0]["findings"][0]
         self.compare("a header that is misspelt", found["why"]["misspelt"], "Acess-Control-Allow-Origin")
 
-    def test_refused(self):
+    def test_refused(self) -> None:
         """What is no recording, with its place."""
         rows = [
             (b"", 1, 1, "the file is empty"), (b"[]", 1, 1, "this is a list"), (b"{}", 1, 1, "there is no `log`"),
@@ -508,7 +527,7 @@ class Checks(base.Checks):
         told = ran(input=b'{"log": {}}')
         self.compare("what bin/har says of it", told.stderr.decode().partition(": it has")[0], "bin/har: standard input:1:2")
 
-    def test_changes(self):
+    def test_changes(self) -> None:
         for name, data, changed, wanted, is_broken in change_rows():
             found = judged(data, **changed)
             groups = [(one["kind"], one["directive"], one["host"], one["count"]) for one in found["groups"]]
@@ -530,7 +549,7 @@ class Checks(base.Checks):
             told = ran(path, "--changes", file.name)
             self.compare("a wrong line", (told.returncode, b":4: cps is none of csp, " in told.stderr), (2, True))
 
-    def check_behind(self):
+    def check_behind(self) -> None:
         """What a refused script asks for, and is refused itself, is told with that."""
         cdn = "https://cdn.test/"
         page = recordings.page(recordings.script(cdn + "a.js"),
@@ -543,7 +562,7 @@ class Checks(base.Checks):
         told = "\n".join(telling.changed_lines(found, False))
         self.compare(f"a script behind a refused one: {told}", "; entry 1, which asked for it, is refused too" in told, True)
 
-    def test_least(self):
+    def test_least(self) -> None:
         """The least policy of a recording, by hosts, by paths and by schemes; and what its HTML has inside it."""
         script, image, fetched = recordings.script, recordings.image, recordings.fetched
         page = recordings.page(script("https://cdn.test/a.js"), script("https://shop.test/b.js"),
@@ -571,7 +590,7 @@ class Checks(base.Checks):
         self.check_inline()
         self.check_several()
 
-    def check_inline(self):
+    def check_inline(self) -> None:
         """With --inline what stands in the HTML passes, but beside a nonce, where that word does nothing; what failed is
         named, and not in the policy."""
         page = recordings.page(recordings.script("https://cdn.test/a.js"),
@@ -598,7 +617,7 @@ class Checks(base.Checks):
         self.compare("a data URL, of which nothing but the type is recorded",
                      judging.suggest(guessed, "host")["suggested"]["policy"], "default-src 'none'; img-src data:")
 
-    def check_several(self):
+    def check_several(self) -> None:
         """One policy for several recordings: each word has the recording that needs it."""
         with tempfile.TemporaryDirectory() as room:
             paths = []
@@ -613,12 +632,14 @@ class Checks(base.Checks):
             self.compare("what a word of it is for", f"  img-src https://b.test: without it entry 2 of {paths[1]} is refused, "
                          "https://b.test/a.png" in told, True)
             missing = os.path.join(room, "no.har")
-            for words, part in (([], "several recordings, and --inline, stand with --suggest-csp"),
-                                (["--suggest-csp", missing], "no.har: No such file")):
+            rows: list[tuple[list[str], str]] = [
+                ([], "several recordings, and --inline, stand with --suggest-csp"),
+                (["--suggest-csp", missing], "no.har: No such file")]
+            for words, part in rows:
                 said = ran(*paths, *words[1:], *words[:1])
-                self.compare(f"{words}: {said.stderr}", (said.returncode, part in said.stderr.decode()), (2, True))
+                self.compare(f"{words}: {said.stderr!r}", (said.returncode, part in said.stderr.decode()), (2, True))
 
-    def test_live(self):
+    def test_live(self) -> None:
         """What a proxy makes of answers and requests (recorded/check_live asks mitmdump itself)."""
         html = b"<META http-equiv='Content-Security-Policy'\n content='a>b'>\n<meta name=x>\xff<meta http-equiv=refresh>"
         self.compare("HTML without its policies", meta_policies.without(html), html[html.index(b"\n<meta name"):])
@@ -649,7 +670,7 @@ class Checks(base.Checks):
                 told = str(error)
             self.compare(f"{names}: {told}", part in told, True)
 
-    def test_cors(self):
+    def test_cors(self) -> None:
         for name, data, wanted in (*preflight_rows(), *answer_rows()):
             found = suggested_cors(data)
             self.compare(f"{name}: the headers", headers_told(found), wanted)
@@ -660,7 +681,7 @@ class Checks(base.Checks):
         self.check_cors_left()
         self.check_cors_words()
 
-    def check_cors_of_answers(self):
+    def check_cors_of_answers(self) -> None:
         """A Firefox recording whose answers have the headers passes, and without any one that a refusal is named for it
         does not."""
         sent = [("Origin", recordings.SHOP), ("Cookie", "a=b")]
@@ -674,7 +695,7 @@ class Checks(base.Checks):
             data = firefox(recordings.entry("https://api.test/x", "fetch", 200, got, sent))
             self.compare(f"an answer with {names}", judging.fails(judged(data)), is_refused)
 
-    def check_cors_left(self):
+    def check_cors_left(self) -> None:
         """What no header lets pass, what goes on to an answer that is not recorded, and what another rule refuses."""
         led = [("Access-Control-Allow-Origin", recordings.SHOP), ("Access-Control-Allow-Credentials", "true"),
                ("Location", "https://third.test/x")]
@@ -692,14 +713,14 @@ class Checks(base.Checks):
             got = (found["passing"], *(len(found[key]) for key in ("left", "open", "others")))
             self.compare(f"{name}: pass, left, open, others", got, wanted)
 
-    def check_cors_words(self):
+    def check_cors_words(self) -> None:
         """The lines and the status; origins of no page; and with changes."""
         path, shop = os.path.join(CASES, "font-without-cors.firefox.har"), recordings.SHOP
         data = json.dumps(recordings.page(recordings.fetched("https://api.test/x"))).encode()
         unset = ["--unset", "https://api.test/* access-control-allow-origin"]
-        needs, words = "  https://api.test/x (1 request): the answer to GET needs", f" --suggest-cors {shop}\n"
+        needs, asked = "  https://api.test/x (1 request): the answer to GET needs", f" --suggest-cors {shop}\n"
         with open(os.path.join(ROOT, "docs", "har.md"), encoding="utf-8") as file:
-            example = file.read().split(os.path.basename(path) + words)[1].split("\n\n")[0]
+            example = file.read().split(os.path.basename(path) + asked)[1].split("\n\n")[0]
         lines = ran(path, "--suggest-cors", shop).stdout.decode().splitlines()
         self.compare("the CORS headers of docs/har.md", [line[4:] for line in example.splitlines()], lines)
         rows = [(["--suggest-cors", shop], 0, f"CORS refuses no request of pages of {shop}\n", ""),
@@ -721,7 +742,7 @@ class Checks(base.Checks):
 
     # ---- Strict-Transport-Security
 
-    def test_hsts(self):
+    def test_hsts(self) -> None:
         """What breaks under HSTS of each host, and which header is safe."""
         image, script, failed, site = recordings.image, recordings.script, recordings.failed, "http://www.shop.test"
         page = recordings.page(
@@ -749,19 +770,20 @@ class Checks(base.Checks):
         self.check_safe_hsts()
         self.check_written_urls()
 
-    def check_safe_hsts(self):
+    def check_safe_hsts(self) -> None:
         """The header that is safe: with subdomains, without, or none; the lines and the status."""
         image, begun = recordings.image, f"max-age={365 * 24 * 60 * 60}"
         opened = recordings.entry("http://shop.test/", "document", 301, [("Location", "https://shop.test/")])
-        rows = [("all have an https answer", [image("http://a.shop.test/1"), image("https://a.shop.test/2")],
-                 "https://shop.test/", [("shop.test", begun + "; includeSubDomains")]),
-                ("a subdomain has none", [image("http://a.shop.test/1")], "https://shop.test/", [("shop.test", begun)]),
-                ("a page over http alone", [], "http://shop.test/", [("shop.test", None)]),
-                ("a parent, and no other", [], "https://a.b.shop.test/", [
-                    ("a.b.shop.test", begun + "; includeSubDomains"), ("b.shop.test", None), ("shop.test", None)]),
-                ("a name below co.uk", [], "https://www.shop.co.uk/", [
-                    ("www.shop.co.uk", begun + "; includeSubDomains"), ("shop.co.uk", None)]),
-                ("an address", [], "https://127.0.0.1/", [])]
+        rows: list[tuple[str, list[Any], str, list[tuple[str, Optional[str]]]]] = [
+            ("all have an https answer", [image("http://a.shop.test/1"), image("https://a.shop.test/2")],
+             "https://shop.test/", [("shop.test", begun + "; includeSubDomains")]),
+            ("a subdomain has none", [image("http://a.shop.test/1")], "https://shop.test/", [("shop.test", begun)]),
+            ("a page over http alone", [], "http://shop.test/", [("shop.test", None)]),
+            ("a parent, and no other", [], "https://a.b.shop.test/", [
+                ("a.b.shop.test", begun + "; includeSubDomains"), ("b.shop.test", None), ("shop.test", None)]),
+            ("a name below co.uk", [], "https://www.shop.co.uk/", [
+                ("www.shop.co.uk", begun + "; includeSubDomains"), ("shop.co.uk", None)]),
+            ("an address", [], "https://127.0.0.1/", [])]
         for name, entries, url, wanted in rows:
             data = recordings.page(*entries, url=url)
             data["log"]["entries"][:0] = [opened] if url == "https://shop.test/" else []
@@ -775,8 +797,8 @@ class Checks(base.Checks):
         moved = suggested_hsts(data, origins=(("http://a.shop.test", "http://new.test"),))
         self.compare("a site that moves away", [one["header"] for one in moved["hosts"]], [begun + "; includeSubDomains"])
 
-    def check_written_urls(self):
-        """Of a page that is at https then: which URLs go with it its HTML says."""
+    def check_written_urls(self) -> None:
+        """The HTML of a page that is at https then says which URLs go with it."""
         site, html = "http://shop.test", "<script src='/a.js'></script><script src='http://shop.test/b.js'></script>"
         scripts = map(recordings.script, (site + "/a.js", site + "/b.js", "http://cdn.test/c.js"))
         page = recordings.page(*scripts, recordings.image("https://shop.test/d"), url=site + "/")
@@ -789,7 +811,7 @@ class Checks(base.Checks):
 
     # ---- what is written
 
-    def test_redact(self):
+    def test_redact(self) -> None:
         entry = recordings.fetched("https://api.test/x?token=stays", cookies="sid=topsecret",
                                    authorization="Bearer hunter2")
         entry["request"]["postData"] = {"text": "topsecret", "params": [{"name": "a", "value": "hunter2"}]}
@@ -816,10 +838,10 @@ class Checks(base.Checks):
                 self.compare(f"--redact {os.path.basename(path)}", ran("--redact", path, input=data).returncode, 2)
             with open(other, "rb") as file:
                 self.compare("another's file", file.read(), data)
-        told = ran("--json", input=data).stdout.decode() + ran(input=data).stdout.decode()
-        self.compare("secrets that are printed", [one for one in SECRETS if one in told], [])
+        printed = ran("--json", input=data).stdout.decode() + ran(input=data).stdout.decode()
+        self.compare("secrets that are printed", [one for one in SECRETS if one in printed], [])
 
-    def test_html(self):
+    def test_html(self) -> None:
         """The page of a recording, as it is and with a change: it has all requests with their whys, asks for nothing, runs
         nothing, tells no secret, and is written over its own kind alone."""
         evil = "https://api.test/<script>alert(1)</script>\u202e?a='\"&b=\x07"
@@ -853,11 +875,12 @@ class Checks(base.Checks):
             self.compare("the page is its owner's alone", oct(os.stat(out).st_mode & 0o777), "0o600")
             wrote(other, b"another's")
             told = ran("--html", other, input=data)
-            self.compare(f"--html over another's file: {told.stderr}", (told.returncode, content(other)), (2, b"another's"))
+            self.compare(f"--html over another's file: {told.stderr!r}", (told.returncode, content(other)),
+                         (2, b"another's"))
             told = ran("--html", out, "--redact", other, input=data)
             self.compare("--html with --redact", (told.returncode, b"--redact stands without --sc" in told.stderr), (2, True))
 
-    def test_scenarios(self):
+    def test_scenarios(self) -> None:
         """The scenarios of all cases fit the schema and play; another's file stays."""
         schema = Schema(asking.SCHEMA)
         with tempfile.TemporaryDirectory() as room:
@@ -865,8 +888,8 @@ class Checks(base.Checks):
                 folder = os.path.join(room, name)
                 told = ran("--brief", "--scenario", folder, os.path.join(CASES, name))
                 self.compare(f"{name}: --scenario", told.returncode, 1)
-                for file in sorted(os.listdir(folder)):
-                    with open(os.path.join(folder, file), "rb") as opened:
+                for entry in sorted(os.listdir(folder)):
+                    with open(os.path.join(folder, entry), "rb") as opened:
                         data = opened.read()
                     self.compare(f"{name}: what does not fit", schema.check(json_text.read(data.decode())), [])
                     asking.Said(data, False, 20)
@@ -876,7 +899,7 @@ class Checks(base.Checks):
             told = ran("--scenario", room, os.path.join(CASES, "corp.firefox.har"))
             self.compare("--scenario over another's file", (told.returncode, b"did not write it" in told.stderr), (2, True))
 
-    def test_many(self):
+    def test_many(self) -> None:
         with tempfile.TemporaryDirectory() as room:
             folder = os.path.join(room, "recordings")
             os.mkdir(folder)
@@ -896,7 +919,7 @@ class Checks(base.Checks):
         told = ran("--many", CASES, "--csp", "default-src 'self'", "--jobs", "2").stderr.decode().splitlines()
         self.compare("the example of --many in docs/har.md", [line[4:] for line in example.splitlines()], told)
 
-    def check_folder(self, folder):
+    def check_folder(self, folder: str) -> bytes:
         """The lines, which are the same for one process and for three; each is what its recording alone comes to."""
         one, three = (ran("--many", folder, "--jobs", jobs) for jobs in "13")
         self.compare("--jobs 3", (three.stdout, three.stderr, three.returncode), (one.stdout, one.stderr, one.returncode))
@@ -912,7 +935,7 @@ class Checks(base.Checks):
         self.compare("the status", one.returncode, 1)
         return one.stdout
 
-    def check_deaths(self, folder, whole):
+    def check_deaths(self, folder: str, whole: list[bytes]) -> None:
         """A process that is killed loses nothing; a recording of which two die is told, and the others are judged."""
         place = next(place for place, line in enumerate(whole) if b"csp-script-src" in line)
         name = os.path.join(folder, "csp-script-src.firefox.har")
@@ -925,7 +948,7 @@ class Checks(base.Checks):
                 self.compare(f"{most} deaths, {jobs} processes", got, wanted)
                 self.compare("how many died", len(os.listdir(room)), min(most, 2))
 
-    def check_stopped(self, room, folder, whole):
+    def check_stopped(self, room: str, folder: str, whole: bytes) -> None:
         """A run that is killed goes on behind the whole lines that it has written."""
         out = os.path.join(room, "out.jsonl")
         words = ["--many", folder, "--out", out]
@@ -945,10 +968,12 @@ class Checks(base.Checks):
         wrote(out, first[:5])
         self.compare("one that has a part of its first line", (ran(*words).returncode, content(out)), (1, first + whole))
         wrote(os.path.join(folder, "a.har"), b"")
-        for more, part in ((["--upgrade"], "it was made with no changes, and here are Content-Security-Policy: upgrade"),
-                           ([], f"its line 2 is of {os.path.join(folder, SOME[0])}, where {folder}/a.har is named")):
+        rows: list[tuple[list[str], str]] = [
+            (["--upgrade"], "it was made with no changes, and here are Content-Security-Policy: upgrade"),
+            ([], f"its line 2 is of {os.path.join(folder, SOME[0])}, where {folder}/a.har is named")]
+        for more, part in rows:
             told = ran(*words, *more)
-            self.compare(f"{more}: {told.stderr}", (told.returncode, part in told.stderr.decode(), content(out)),
+            self.compare(f"{more}: {told.stderr!r}", (told.returncode, part in told.stderr.decode(), content(out)),
                          (2, True, first + whole))
         os.remove(os.path.join(folder, "a.har"))
         other, link = os.path.join(room, "other"), os.path.join(room, "link")
@@ -956,10 +981,10 @@ class Checks(base.Checks):
         os.symlink(out, link)
         for path, part in ((other, "--out did not write it"), (link, "is a symbolic link"), (room, "Is a directory")):
             told = ran("--many", folder, "--out", path)
-            self.compare(f"--out {path}: {told.stderr}", (told.returncode, part in told.stderr.decode()), (2, True))
+            self.compare(f"--out {path}: {told.stderr!r}", (told.returncode, part in told.stderr.decode()), (2, True))
         self.compare("another's file", content(other), b"another's\n")
 
-    def check_lists(self, room, folder):
+    def check_lists(self, room: str, folder: str) -> None:
         """A list with what is none: each costs its own line."""
         good, missing, empty, cut = (os.path.join(room, name) for name in ("good.har", "no.har", "empty.har", "cut.har.gz"))
         wrote(good, json.dumps(recordings.page(recordings.image("https://shop.test/a.png"))).encode())
@@ -981,19 +1006,20 @@ class Checks(base.Checks):
         self.compare("line_of", line_of(good, data), rows[0])
         self.compare("the counts", (rows[0]["counts"], rows[0]["findings"], rows[0]["entries"]), ({"passed": 1}, [], 2))
 
-    def check_file_of_lines(self, room):
+    def check_file_of_lines(self, room: str) -> None:
         """A recording in each line, of a packed file that is cut."""
         one = json.dumps(recordings.page(recordings.image("https://shop.test/a.png"))).encode()
         path = os.path.join(room, "all.jsonl")
         wrote(path, one + b"\n\n" + one[:-1] + b"\n" + one)
         wrote(path + ".gz", gzip.compress(content(path) + b"\n" + random.Random(1).randbytes(99999).hex().encode())[:-9999])
-        for name, last in ((path, []), (path + ".gz", [(f"{path}.gz:5", 2)])):
+        rows: list[tuple[str, list[tuple[str, int]]]] = [(path, []), (path + ".gz", [(f"{path}.gz:5", 2)])]
+        for name, last in rows:
             got = [(row["name"], row["status"]) for row in rows_of(ran("--many", name).stdout)]
             self.compare(f"the lines of {name}", got, [(f"{name}:1", 0), (f"{name}:3", 2), (f"{name}:4", 0), *last])
 
-    def check_summary(self, room):
-        """What a policy would do to three recordings. Of their three policies one names no directive, and one reports to
-        nobody."""
+    def check_summary(self, room: str) -> None:
+        """What a policy would do to three recordings. One of their three policies names no directive, and one reports
+        to nobody."""
         script, image = recordings.script("https://cdn.test/a.js"), recordings.image("https://cdn.test/a.png")
         policies = [("Content-Security-Policy", "report-uri /reports"),
                     ("Content-Security-Policy-Report-Only", "img-src *"), ("Content-Security-Policy", "img-src *")]
@@ -1014,7 +1040,7 @@ class Checks(base.Checks):
         self.compare("a summary", ran("--many", path).stderr.decode().splitlines(), [
             "3 recordings: 2 pass, 1 fail", "  1 recording: 1 request to api.test refused by CorsCheck", idle])
 
-    def check_words_of_many(self, room, folder):
+    def check_words_of_many(self, room: str, folder: str) -> None:
         path = os.path.join(CASES, "corp.firefox.har")
         blank = os.path.join(room, "blank")
         wrote(blank, b" \n\n")
@@ -1032,7 +1058,7 @@ class Checks(base.Checks):
         self.compare("a program that is not there", ran("--many", folder, env=other).returncode, 3)
         self.compare("many without a reader", pipes.without_reader("har", "--many", folder), b"")
 
-    def test_progress(self):
+    def test_progress(self) -> None:
         """A line of standard error tells how far it is, after two seconds, on a terminal alone, and goes at the end."""
         for is_terminal, after, wanted in (
                 (True, 0, "\r\x1b[Kx: 3 requests played, 0 s\r\x1b[Kx: 1,003 requests played, 0 s\r\x1b[K"),
@@ -1064,7 +1090,7 @@ class Checks(base.Checks):
 
     # ---- what is wrong in a recording
 
-    def test_hostile(self):
+    def test_hostile(self) -> None:
         """A few of those of recorded/check_hostile."""
         texts = [data_of(os.path.basename(path)).decode() for path in sorted(glob.glob(os.path.join(CASES, "*.har")))]
         faults, counts = hostile.faults_of(texts, MUTATED, RANDOM, 64)
@@ -1075,7 +1101,7 @@ class Checks(base.Checks):
 
     # ---- chains, pages, kinds
 
-    def test_reading(self):
+    def test_reading(self) -> None:
         for name, data, wanted in recordings.read_otherwise():
             recording = har.read(json.dumps(data).encode())
             got = [(page.url, page.top, [([hop.url for hop in chain.hops], sorted(chain.preflights))
@@ -1090,7 +1116,7 @@ class Checks(base.Checks):
         recording = har.read(json.dumps(data).encode())
         self.compare("judged twice", judging.judge(recording), judging.judge(recording))
 
-    def test_sizes(self):
+    def test_sizes(self) -> None:
         """One URL with several answers, a page of many requests, and what a scenario writes otherwise."""
         fetched = recordings.fetched
         found = judged(recordings.page(fetched("https://api.test/x"), fetched("https://api.test/x", allowed=False),
@@ -1106,7 +1132,7 @@ class Checks(base.Checks):
         found = judged(recordings.page(*map(fetched, urls)))
         self.compare("URLs that a scenario writes otherwise", found["pages"][0]["verdict"], "all passed")
 
-    def test_tools(self):
+    def test_tools(self) -> None:
         """What other tools call the kinds and the failures of requests."""
         failed = recordings.plain("https://api.test/x", status=-1, sent=[("Origin", recordings.SHOP)])
         failed["response"]["_failureText"] = "net::ERR_FAILED"
@@ -1123,7 +1149,7 @@ class Checks(base.Checks):
 
     # ---- flow files
 
-    def test_flows(self):
+    def test_flows(self) -> None:
         """Whether flow files were read."""
         data = content(FLOWS)
         told = flow_refusal(data, "mitmproxy")
@@ -1138,7 +1164,7 @@ class Checks(base.Checks):
         self.check_flow_file(data)
         self.check_broken_flows(data)
 
-    def check_flow_file(self, data):
+    def check_flow_file(self, data: bytes) -> None:
         """The page, its requests with what came of them, and that no secret is told or written."""
         told = ran("--json", FLOWS)
         found = json.loads(told.stdout)
@@ -1154,7 +1180,7 @@ class Checks(base.Checks):
         self.compare("what its proxy did not see", found["notes"], [har.PROXY])
         text = ran(FLOWS).stdout
         for part in (b"the proxy got no answer (mitmproxy: [Errno 111] Connect call failed", b"note: a proxy made the rec"):
-            self.compare(f"the text of a flow file has {part}", part in text, True)
+            self.compare(f"the text of a flow file has {part!r}", part in text, True)
         self.compare("a flow file that is packed", ran(input=gzip.compress(data)).stdout, text)
         with tempfile.TemporaryDirectory() as room:
             shutil.copy(FLOWS, room)
@@ -1168,13 +1194,13 @@ class Checks(base.Checks):
             written = content(out) + told.stdout + text
         self.compare("secrets of a flow file", [one for one in SECRETS if one.encode() in written], [])
 
-    def check_real(self, wanted):
+    def check_real(self, wanted: dict[str, dict[str, int]]) -> None:
         """Recordings of applications (recorded/real/record): what came is told as passed, and what the page left as open."""
         for name, counts in wanted.items():
             data = content(os.path.join(ROOT, "recorded", "real", name))
             self.compare(f"the verdicts of {name}", line_of(name, data)["counts"], counts)
 
-    def check_broken_flows(self, data):
+    def check_broken_flows(self, data: bytes) -> None:
         """What is cut or no flow, with its place; one flow that cannot be read costs that flow; and what was changed at
         random makes no fault."""
         begun = [at for at, _ in flows.frames(data)]
@@ -1184,11 +1210,11 @@ class Checks(base.Checks):
             told = flow_refusal(other)
             self.compare(f"a broken flow file: {told}", part in told, True)
         other = data[:begun[1]] + data[begun[1]:].replace(b"7:version;2:17#", b"7:version;2:99#", 1) + b"4:1:a,]2:~~,"
-        told = [sentence.partition(" (") for _, sentence in har.read(other).bad]
+        bad = [sentence.partition(" (") for _, sentence in har.read(other).bad]
         places = ((1, begun[1]), (len(begun), len(data)), (len(begun) + 1, len(data) + 7))
-        self.compare("flows that are none", [sentence for sentence, *_ in told], [
+        self.compare("flows that are none", [sentence for sentence, *_ in bad], [
             f"entries[{number}], at byte {at}, is no flow that mitmproxy's reader takes" for number, at in places])
-        self.compare("why", told[0][2].startswith("flow format version 99"), True)
+        self.compare("why", bad[0][2].startswith("flow format version 99"), True)
         self.compare("the other flows", len(har.read(other).entries), len(begun) - 1)
         chance = random.Random(64)
         for _ in range(100):
@@ -1198,5 +1224,5 @@ class Checks(base.Checks):
             flow_refusal(bytes(other[:chance.choice((len(other), chance.randrange(1, len(other))))]))
 
 
-def main():
+def main() -> int:
     return base.main("recorded/check", __name__)

@@ -1,10 +1,12 @@
-"""Checks that no recording makes bin/har fail: recordings that were cut or changed at random, and random JSON texts, are
-each refused with a place or judged, by all that bin/har can be asked. recorded/check tries a few.
+"""Checks that no recording makes bin/har fail: recordings that were cut or changed at random, and random JSON texts,
+are each refused with a place or judged, by all that bin/har can be asked. recorded/check tries a few.
 
     recorded/check_hostile             200 recordings and 2,000 texts
     recorded/check_hostile SEED        others of them
 
 It needs python3 (3.9 or later). Plays are made by bin/fetchplay, or by the program that FETCHPLAY names."""
+from __future__ import annotations
+
 import glob
 import os
 import sys
@@ -16,7 +18,7 @@ CASES = os.path.join(ROOT, "recorded", "cases")
 MUTATED, RANDOM, SEED = 200, 2000, 64
 
 
-def texts():
+def texts() -> list[str]:
     """The texts of all recordings of recorded/cases."""
     found = []
     for path in sorted(glob.glob(os.path.join(CASES, "*.har"))):
@@ -25,7 +27,7 @@ def texts():
     return found
 
 
-def main():
+def main() -> int:
     seed = int(sys.argv[1]) if sys.argv[1:] else SEED
     faults, counts = hostile.faults_of(texts(), MUTATED, RANDOM, seed)
     for fault in faults:

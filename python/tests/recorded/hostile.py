@@ -40,7 +40,7 @@ TEXTS = (
     "<meta http-equiv=content-security-policy content=\"script-src 'none'\"><script src=/a.js integrity=sha256-x>",
     "<base href='http://['><img srcset='" + "a 1x," * 999 + "'>", "<![if" + "<" * 999, "\u20ac" * 99, "QUJD", LONG,
     "<iframe src='https://shop.test/'><link rel=preload as=font href=//cdn.test/f crossorigin>")
-PLAIN = (None, True, -1, 1e300, 99, 10 ** 30, 304, 0.5, "", "x", [], {}, "GET", "OPTIONS", "T" * 99)
+PLAIN: tuple[Any, ...] = (None, True, -1, 1e300, 99, 10 ** 30, 304, 0.5, "", "x", [], {}, "GET", "OPTIONS", "T" * 99)
 OF_KEY = {
     "url": URLS, "redirectURL": URLS, "value": VALUES, "name": NAMES, "startedDateTime": TIMES, "text": TEXTS,
     "status": (0, 101, 204, 301, 304, 307, 401, 999, 1000, -1, "200"), "method": ("GET", "PUT", "OPTIONS", "a b", ""),
@@ -52,7 +52,7 @@ KEYS = (
 
 # ---- what is made
 
-def mutated(text: str, chance: Any) -> bytes:
+def mutated(text: str, chance: random.Random) -> bytes:
     """A recording's text, cut or changed at one place, or with values that are others at some."""
     what, at = chance.randrange(5), chance.randrange(len(text))
     if what == 0:
@@ -126,7 +126,9 @@ def made(texts: list[str], mutated_count: int, random_count: int, chance: Any) -
 
 def faults_of(texts: list[str], mutated_count: int, random_count: int, seed: int) -> tuple[list[str], Counter[str]]:
     """The faults that so many recordings and texts show, and how many of them were refused and judged."""
-    faults, counts, chance = [], Counter(), random.Random(seed)
+    faults: list[str] = []
+    counts: Counter[str] = Counter()
+    chance = random.Random(seed)
     for data in made(texts, mutated_count, random_count, chance):
         try:
             counts[tried(data, chance)] += 1

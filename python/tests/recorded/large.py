@@ -4,8 +4,11 @@ second number it writes so many, each in a line and with other entries.
 
     bench/recordings 10000 >large.har
     bench/recordings 5 20000 >many.jsonl"""
+from __future__ import annotations
+
 import json
 import sys
+from typing import Any, TextIO
 
 from tests.recorded import recordings
 
@@ -27,7 +30,7 @@ GOT = [("Date", "Tue, 01 Dec 2026 06:00:00 GMT"), ("Server", "nginx"), ("Cache-C
        ("Access-Control-Allow-Origin", "*"), ("Timing-Allow-Origin", "*"), ("Alt-Svc", 'h3=":443"; ma=86400')]
 
 
-def entry(number):
+def entry(number: int) -> dict[str, Any]:
     """An entry of the page."""
     is_fetch, (kind, content, ending) = number % 10 == 0, KINDS[number % len(KINDS)]
     kind, content, ending = ("fetch", "application/json", "json") if is_fetch else (kind, content, ending)
@@ -46,20 +49,20 @@ def entry(number):
     return found
 
 
-def recording(count, begin=0):
+def recording(count: int, begin: int = 0) -> dict[str, Any]:
     page = recordings.page(*map(entry, range(begin, begin + count)), headers=[("Content-Security-Policy", POLICY)])
     page["log"]["entries"][0]["startedDateTime"] = "2026-12-01T05:59:59.000Z"
     page["log"]["entries"][0]["response"]["content"] = {"text": "<!doctype html><title>A shop</title>"}
     return page
 
 
-def write(file, entries, count):
+def write(file: TextIO, entries: int, count: int) -> None:
     for number in range(count):
         json.dump(recording(entries, number * entries), file)
         file.write("\n" if count > 1 else "")
 
 
-def main():
+def main() -> None:
     given = [int(word) for word in sys.argv[1:]]
     entries, count = given + [1000, 1][len(given):]
     write(sys.stdout, entries, count)

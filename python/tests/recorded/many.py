@@ -19,15 +19,15 @@ import sys
 import tempfile
 import time
 from dataclasses import dataclass
-from typing import Callable, Optional
+from typing import Optional
 
 from fiorrudda.places import ROOT
 from tests.recorded import check_dask, large
+from tests.recorded.check_dask import Happens
 
 COUNT, REQUESTS = 20000, 5
 EVERY = 0.02  # seconds between two looks at a run
 TICK = os.sysconf("SC_CLK_TCK")
-Happens = Callable[["subprocess.Popen[bytes]"], None]
 
 
 @dataclass
@@ -137,10 +137,11 @@ def try_dask(bench: Bench, one: Run) -> None:
         return
     with check_dask.cluster(bench.room, os.environ["FETCHPLAY"]) as (port, nannies):
         relay = check_dask.Relay(port)
-        for name, own, happens in (
-                ("2 workers of Dask", port, None),
-                ("one killed", port, lambda _: os.kill(check_dask.worker_below(nannies[0]), signal.SIGKILL)),
-                ("the connections cut", relay.port, lambda _: relay.cut())):
+        rows: tuple[tuple[str, int, Optional[Happens]], ...] = (
+            ("2 workers of Dask", port, None),
+            ("one killed", port, lambda _: os.kill(check_dask.worker_below(nannies[0]), signal.SIGKILL)),
+            ("the connections cut", relay.port, lambda _: relay.cut()))
+        for name, own, happens in rows:
             bench.tell(name, bench.run(["--dask", f"tcp://127.0.0.1:{own}"], happens), one)
 
 

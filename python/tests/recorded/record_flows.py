@@ -3,6 +3,8 @@ http://shop.test with a script, an image, a request that CORS refuses, a preflig
 down. It needs mitmproxy and curl.
 
     recorded/record_flows OUT"""
+from __future__ import annotations
+
 import gzip
 import http.server
 import os
@@ -12,6 +14,7 @@ import subprocess
 import sys
 import threading
 import time
+from typing import Any
 
 PAGE = b'<!doctype html><title>shop</title><script src="/a.js"></script><img src="/\xc3\xa4.png">'
 SHOP, ACCEPT = ["Referer: http://shop.test/"], "Accept: */*"
@@ -35,7 +38,7 @@ AGENT = "User-Agent: Mozilla/5.0 (X11; Linux x86_64; rv:153.0) Gecko/20100101 Fi
 class Handler(http.server.BaseHTTPRequestHandler):
     """Answers each path in its way."""
 
-    def do_GET(self):
+    def do_GET(self) -> None:
         headers, body = ANSWERS[self.path]
         self.send_response(200)
         for name, value in {**headers, "Content-Length": str(len(body))}.items():
@@ -45,17 +48,18 @@ class Handler(http.server.BaseHTTPRequestHandler):
 
     do_OPTIONS = do_PUT = do_GET
 
-    def log_message(self, *_):
+    def log_message(self, *_: Any) -> None:
         pass
 
 
-def free_port():
+def free_port() -> int:
     with socket.socket() as one:
         one.bind(("127.0.0.1", 0))
-        return one.getsockname()[1]
+        port: int = one.getsockname()[1]
+        return port
 
 
-def wait_for(port):
+def wait_for(port: int) -> None:
     for _ in range(300):
         with socket.socket() as one:
             if one.connect_ex(("127.0.0.1", port)) == 0:
@@ -64,14 +68,14 @@ def wait_for(port):
     sys.exit("mitmdump did not come up")
 
 
-def ask(proxy, port, method, host, path, headers):
+def ask(proxy: int, port: int, method: str, host: str, path: str, headers: list[str]) -> None:
     """By curl through the proxy; the proxy is told an address, and the server the name."""
     words = [word for one in (f"Host: {host}", AGENT, *headers) for word in ("-H", one)]
     subprocess.run(["curl", "-s", "-o", os.devnull, "-x", f"http://127.0.0.1:{proxy}", "-X", method, *words,
                     f"http://127.0.0.1:{port}{path}"], check=True)
 
 
-def main():
+def main() -> None:
     out, = sys.argv[1:]
     server = http.server.ThreadingHTTPServer(("127.0.0.1", 0), Handler)
     threading.Thread(target=server.serve_forever, daemon=True).start()

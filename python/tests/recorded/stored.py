@@ -6,13 +6,14 @@ import glob
 import json
 import os
 import re
-from collections import namedtuple
-from typing import Any, Iterator, Optional
+from dataclasses import dataclass
+from typing import Any, Iterator, NamedTuple, Optional
 
 from fiorrudda.commands import answers
-from fiorrudda.commands.running import ROOT
 from fiorrudda.commands.scenario import Scenario, joined
+from fiorrudda.commands.shapes import Pairs
 from fiorrudda.names import CORS_LOADS
+from fiorrudda.places import ROOT
 from tests.recorded import made
 from tests.recorded.recordings import HTML
 
@@ -27,9 +28,28 @@ OTHER_CAUSES = ("reports/other-schemes", "reports/bad-port-and-policy", "urls/bl
 SILENT = re.compile("integrity|MIME|nosniff", re.I)
 ORDER = "2026-12-01T%02d:%02d:%02d.%06dZ"
 
-Request = namedtuple("Request", "origin method target headers")
-# A recording, the commands of its scenario's script, what the browser made of each, and of which command each entry is.
-Stored = namedtuple("Stored", "name browser data commands told owners")
+
+@dataclass
+class Request:
+    """One that a browser sent."""
+
+    origin: str
+    method: str
+    target: str
+    headers: Pairs
+    kind: str = "send"
+
+
+class Stored(NamedTuple):
+    """A recording, the commands of its scenario's script, what the browser made of each, and of which command each
+    entry is."""
+
+    name: str
+    browser: str
+    data: dict[str, Any]
+    commands: list[dict[str, Any]]
+    told: list[dict[str, Any]]
+    owners: dict[int, int]
 
 
 def all_of(browser: str) -> Iterator[Stored]:
@@ -111,11 +131,11 @@ class Writer:
 
     def sent(self, command: dict[str, Any], request: Request) -> dict[str, Any]:
         kind = command["load"]["kind"] if "load" in command else "fetch"
-        own = [pair for pair in request.headers if pair[0].lower() != "user-agent"]
-        own.append(["User-Agent", made.AGENTS[self.browser]])
+        own = [(name, value) for name, value in request.headers if name.lower() != "user-agent"]
+        own.append(("User-Agent", made.AGENTS[self.browser]))
         if request.origin.startswith("https:"):
             destination = "empty" if kind == "fetch" else kind
-            own += [["Sec-Fetch-Dest", destination], ["Sec-Fetch-Mode", mode_of(command)]]
+            own += [("Sec-Fetch-Dest", destination), ("Sec-Fetch-Mode", mode_of(command))]
         answer = answers.scripted(self.scenario, request)
         status, got = (answer.head.status, answer.head.headers) if answer.head else (0, [])
         entry = made.entry(self.browser, request.origin + request.target, kind, status, got, own, request.method)
@@ -152,7 +172,8 @@ def without_policies(scenario: dict[str, Any]) -> tuple[dict[str, Any], str]:
 
 def mode_of(command: dict[str, Any]) -> str:
     if "fetch" in command:
-        return command["fetch"].get("mode", "cors")
+        mode: str = command["fetch"].get("mode", "cors")
+        return mode
     is_cors = command["load"]["kind"] in CORS_LOADS or "crossorigin" in command["load"]
     return "cors" if is_cors else "no-cors"
 

@@ -28,7 +28,7 @@ def read(*path: str) -> str:
 NAMES = json.loads(read("schema", "names.json"))
 # What it is, what it has, and what it is to have.
 Table = Tuple[str, Iterable[str], Iterable[str]]
-# Of what docs/scenario.md has an item with all words.
+# Tables of which docs/scenario.md has an item with all words.
 IN_SCENARIO = ("modes", "credentials", "redirects", "loads", "crossorigins")
 
 

@@ -12,7 +12,7 @@ from tools.standard.table import Step, Table
 WHOLE = ("book_hosts", "book_preflights", "fetch_answers", "fetch_definitions", "fetch_machine", "fetch_requests",
          "fetch_rules", "policy_checks", "policy_csp", "policy_csp_match", "policy_csp_text", "policy_filter",
          "policy_integrity", "policy_preflight", "policy_safelist")
-# Of these the definitions are of the machine, and stand for no rule of a standard.
+# The definitions of these are of the machine, and stand for no rule of a standard.
 ONLY_EDITS = ("fetch_machine",)
 
 

@@ -10,7 +10,7 @@ import subprocess
 import time
 from contextlib import contextmanager, suppress
 from dataclasses import dataclass
-from typing import Callable, Iterator
+from typing import Any, Callable, Iterator
 
 PATIENCE = 60
 USER, PASSWORD = "admin", "a-loopback-password"
@@ -43,7 +43,7 @@ def write(path: str, text: str) -> str:
 
 
 def copy(folder: str, to: str, without: str) -> None:
-    """Copies a package's folder, with what its links lead to, but for a file at its top. Links that lead nowhere are
+    """Copies a package's folder, with what its links lead to, except a file at its top. Links that lead nowhere are
     left out."""
     subprocess.run(["cp", "-rL", folder, to], stderr=subprocess.DEVNULL)
     with suppress(FileNotFoundError):
@@ -109,7 +109,7 @@ def ready_phpmyadmin(room: str, port: int) -> Words:
     """Starts a database of this run, which ends with it."""
     data, place = os.path.join(room, "db"), os.path.join(room, "socket")
     as_root = ["--user=root"] if os.getuid() == 0 else []
-    quiet = {"stdout": subprocess.DEVNULL, "stderr": subprocess.DEVNULL}
+    quiet: dict[str, Any] = {"stdout": subprocess.DEVNULL, "stderr": subprocess.DEVNULL}
     subprocess.run(["mariadb-install-db", f"--datadir={data}", *as_root, "--skip-test-db",
                     "--auth-root-authentication-method=normal"], check=True, **quiet)
     server = subprocess.Popen(["mariadbd", f"--datadir={data}", *as_root, "--skip-networking", f"--socket={place}",
@@ -135,7 +135,7 @@ $cfg['TempDir'] = '{room}'; $cfg['VersionCheck'] = false; $cfg['SendErrorReports
     return ["-t", folder]
 
 
-STARTED: list[subprocess.Popen] = []
+STARTED: list[subprocess.Popen[bytes]] = []
 ALL = {one.name: one for one in (
     Application("dokuwiki", 8411, f"{DOKUWIKI}/doku.php", ready_dokuwiki),
     Application("mediawiki", 8412, f"{MEDIAWIKI}/index.php", ready_mediawiki),

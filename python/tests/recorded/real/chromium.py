@@ -30,10 +30,10 @@ START = 'exec "$@" 3<&%d 4>&%d'  # the descriptors of the protocol
 def pipe() -> tuple[int, int]:
     """A pipe whose ends are none of the descriptors that the protocol has."""
     ends = os.pipe()
-    above = tuple(fcntl.fcntl(end, fcntl.F_DUPFD_CLOEXEC, 10) for end in ends)
+    to_read, to_write = (fcntl.fcntl(end, fcntl.F_DUPFD_CLOEXEC, 10) for end in ends)
     for end in ends:
         os.close(end)
-    return above
+    return to_read, to_write
 
 
 class Chromium:
@@ -82,7 +82,8 @@ class Chromium:
                 if message.get("id") == own["id"]:
                     if "error" in message:
                         raise RuntimeError(f"{method}: {message['error']['message']}")
-                    return message["result"]
+                    result: dict[str, Any] = message["result"]
+                    return result
             if time.monotonic() > end:
                 raise TimeoutError(f"chromium: {method} was not answered")
 
@@ -226,7 +227,7 @@ class Har:
 
     def page_of(self, hop: dict[str, Any]) -> str:
         loader = hop["asked"]["loaderId"]
-        own = [page["id"] for page in self.pages if page["loader"] == loader]
+        own: list[str] = [page["id"] for page in self.pages if page["loader"] == loader]
         before = [page["id"] for page in self.pages if page["startedDateTime"] <= time_of(hop["asked"]["wallTime"])]
         return (own or before or ["page_1"])[-1]
 

@@ -43,7 +43,7 @@ class Firefox:
     def __init__(self, proxy: Optional[int] = None):
         self.folder = tempfile.mkdtemp(prefix="recorded-firefox-")
         port = free_port()
-        own = {**PREFERENCES, "marionette.port": port, "network.proxy.type": 1 if proxy else 0}
+        own: dict[str, Any] = {**PREFERENCES, "marionette.port": port, "network.proxy.type": 1 if proxy else 0}
         if proxy:
             own.update({"network.proxy.http": "127.0.0.1", "network.proxy.http_port": proxy,
                         "network.proxy.ssl": "127.0.0.1", "network.proxy.ssl_port": proxy,
@@ -99,7 +99,7 @@ class Firefox:
     def in_chrome(self, script: str) -> str:
         self.ask("Marionette:SetContext", value="chrome")
         try:
-            found = self.ask("WebDriver:ExecuteAsyncScript", script=script, args=[])["value"]
+            found: str = self.ask("WebDriver:ExecuteAsyncScript", script=script, args=[])["value"]
         finally:
             self.ask("Marionette:SetContext", value="content")
         if found.startswith("failed"):
@@ -127,7 +127,7 @@ class Firefox:
 
     def har(self) -> dict[str, Any]:
         """What the panel exports, with the bodies that are kept."""
-        found = json.loads(self.in_chrome(EXPORT))
+        found: dict[str, Any] = json.loads(self.in_chrome(EXPORT))
         for entry in found["log"]["entries"]:
             content = entry["response"].get("content") or {}
             if not any(part in content.get("mimeType", "") for part in self.kept):
@@ -143,7 +143,8 @@ class Firefox:
 def free_port() -> int:
     with socket.socket() as one:
         one.bind(("127.0.0.1", 0))
-        return one.getsockname()[1]
+        port: int = one.getsockname()[1]
+        return port
 
 
 def connected(port: int) -> socket.socket:

@@ -34,8 +34,8 @@ ASK = """(() => {
   fetch(url, { ...init, ...(headers ? { headers } : {}) }).then((answer) => answer.text()).catch(() => 0);
 })()"""
 MARK = "planted"  # of the page's own path
-# What Chromium's recording tells of the other pages than their ways. Of a fetch or a WebSocket that a policy or mixed
-# content refuses it has no entry, and a script's User-Agent it does not send.
+# What Chromium's recording tells of the other pages than their ways. It has no entry of a fetch or a WebSocket that a
+# policy or mixed content refuses, and it does not send a script's User-Agent.
 UNRECORDED = ("mixed/websocket", "policy/quotes", "policy/nothing-allowed", "policy/colon", "policy/path-star",
               "policy/path-slash", "policy/port", "policy/scheme", "policy/path", "policy/host", "policy/no-word",
               "preflight/user-agent")
@@ -62,7 +62,7 @@ class Planted:
 
     @property
     def url(self) -> str:
-        return self.document["url"] + MARK
+        return f"{self.document['url']}{MARK}"
 
     def scripts(self) -> Iterator[str]:
         """What its fetches are in JavaScript."""

@@ -4,12 +4,14 @@ between them, which serves each change:
     recorded/real/try_changes [APPLICATION..]
 
 - What if: for each change of CHANGES the pages of PAGES are visited with it. What Chromium refuses then is what bin/har
-  says, by the recording of a visit without changes: no request more, none less, but for what a refused one asks for, as
+  says, by the recording of a visit without changes: no request more, none less, except what a refused one asks for, as
   bin/har tells, and for icons, which it asks for once; and what is told to go with these is not asked for.
 - The least policy of --suggest-csp --inline, of a recording of all steps, and Firefox's that is kept, with what its
   notes name of the own origin: the steps are done again under it, in Firefox too, and no violation is reported.
 
 It needs what recorded/real/record needs, and the program that FETCHPLAY names."""
+from __future__ import annotations
+
 import json
 import os
 import re
@@ -17,12 +19,15 @@ import shutil
 import sys
 import tempfile
 import urllib.request
+from typing import Any
 
 from fiorrudda.places import ROOT
 from fiorrudda.recorded import differences, har, judging, kinds, served
+from fiorrudda.recorded.model import Recording
 from tests.recorded.real import applications, proxy, steps
 from tests.recorded.real.chromium import Chromium
 from tests.recorded.real.firefox import Firefox
+from tests.recorded.real.record import Browser
 
 HERE = os.path.join(ROOT, "recorded", "real")
 
@@ -39,21 +44,21 @@ CHANGES = [
     ["set http://localhost:*/* Cross-Origin-Resource-Policy: same-origin"],
     ["set http://localhost:*.css* Content-Type: text/plain", "set http://localhost:* X-Content-Type-Options: nosniff"],
     ["referrer-policy no-referrer"]]
-FAULTS = []
+FAULTS: list[str] = []
 
 
-def say(port, changes):
+def say(port: int, changes: list[str]) -> None:
     """Tells the proxy which changes are tried from now on."""
     opener = urllib.request.build_opener(urllib.request.ProxyHandler({"http": f"http://127.0.0.1:{port}"}))
     opener.open(f"http://{proxy.CHANGES_HOST}/", json.dumps(changes).encode()).close()
 
 
-def named(url):
+def named(url: str) -> str:
     """A URL as two visits have it: numbers that are times are none."""
     return re.sub("[0-9]{6,}", "N", url.partition("#")[0])
 
 
-def visited(browser, application):
+def visited(browser: Chromium, application: applications.Application) -> tuple[dict[str, Any], set[str], set[str]]:
     """The pages' recording, what was asked for, and what was refused."""
     browser.ask("Network.clearBrowserCache")
     browser.events.clear()
@@ -65,7 +70,7 @@ def visited(browser, application):
     return recording, {named(entry["request"]["url"]) for entry in recording["log"]["entries"]}, refused
 
 
-def predicted(recording, changes):
+def predicted(recording: Recording, changes: list[str]) -> tuple[set[str], set[str], set[str]]:
     """What bin/har says that is refused under changes, of these what refused ones alone ask for, and what is not asked
     for any more."""
     found = judging.judge(recording, served.changes_of(changes))["differences"]
@@ -75,13 +80,13 @@ def predicted(recording, changes):
     return first | behind, behind - first, {named(one["url"]) for one in found if one["kind"] == differences.WITH}
 
 
-def icons_of(recording):
+def icons_of(recording: Recording) -> set[str]:
     """What Chromium asks for by itself, and once: it calls that other."""
     return {named(entry.url) for entry in recording.entries
             if entry.resource_type == "other" and kinds.kind_of(entry, None)[0] == "image"}
 
 
-def try_what_if(browser, application, port):
+def try_what_if(browser: Chromium, application: applications.Application, port: int) -> int:
     """How many changes came as they were foretold."""
     say(port, [])
     base, _, failed = visited(browser, application)
@@ -103,7 +108,7 @@ def try_what_if(browser, application, port):
     return same
 
 
-def stored(application):
+def stored(application: applications.Application) -> list[Recording]:
     """The recording of Firefox, where it is kept."""
     path = os.path.join(HERE, application.name + ".firefox.har.gz")
     if not os.path.exists(path):
@@ -112,7 +117,7 @@ def stored(application):
         return [har.read(file.read())]
 
 
-def with_failed(found):
+def with_failed(found: dict[str, Any]) -> str:
     """The policy with what the notes name: requests of the pages' own origin that failed, as they were left."""
     policy = {name: words for name, *words in map(str.split, found["policy"].split(";"))}
     for one in found["failed"]:
@@ -121,7 +126,7 @@ def with_failed(found):
     return "; ".join(" ".join([name, *words]) for name, words in policy.items())
 
 
-def suggested(browser, application, port):
+def suggested(browser: Chromium, application: applications.Application, port: int) -> str:
     """The policy that is suggested."""
     say(port, [])
     browser.events.clear()
@@ -133,7 +138,8 @@ def suggested(browser, application, port):
     return policy
 
 
-def try_policy(browser, application, port, violations, policy):
+def try_policy(browser: Browser, application: applications.Application, port: int, violations: str,
+               policy: str) -> None:
     """Does the steps under a policy; how many requests were made where that is known."""
     say(port, ["csp " + policy])
     begin = os.path.getsize(violations)
@@ -142,11 +148,12 @@ def try_policy(browser, application, port, violations, policy):
         file.seek(begin)
         told = sorted({served.sentence_of(json.loads(line)) for line in file})
     entries = len(browser.har()["log"]["entries"])
-    print(f"{application.name}: {entries} requests of {browser.name} under its policy: {len(told)} violations", flush=True)
+    print(f"{application.name}: {entries} requests of {browser.name} under its policy: {len(told)} violations",
+          flush=True)
     FAULTS.extend(f"{application.name}, under its policy in {browser.name}: {one}" for one in told)
 
 
-def try_chromium(application, port, violations):
+def try_chromium(application: applications.Application, port: int, violations: str) -> str:
     """The policy that is suggested, and all changes."""
     browser = Chromium(port)
     try:
@@ -163,7 +170,7 @@ def try_chromium(application, port, violations):
         browser.close()
 
 
-def try_firefox(application, port, violations, policy):
+def try_firefox(application: applications.Application, port: int, violations: str, policy: str) -> None:
     browser = Firefox(port)
     try:
         try_policy(browser, application, port, violations, policy)
@@ -171,7 +178,7 @@ def try_firefox(application, port, violations, policy):
         browser.close()
 
 
-def try_application(application):
+def try_application(application: applications.Application) -> None:
     with tempfile.TemporaryDirectory() as room, applications.served(application, room):
         violations = os.path.join(room, "violations")
         open(violations, "w").close()
@@ -183,7 +190,7 @@ def try_application(application):
                 print(f"{application.name}: not tried in Firefox, which is not installed")
 
 
-def main():
+def main() -> int:
     names = sys.argv[1:]
     for name in names or applications.ALL:
         try:
