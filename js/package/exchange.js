@@ -4,7 +4,7 @@ import { absolute } from "./asked.js";
 import { Body, piecesOf } from "./bodies.js";
 import { WrongCoding, codingsOf } from "./codings.js";
 import { Client, Fetch, ScriptRequest, seen } from "./index.js";
-import { isLocal, localResponse } from "./local.js";
+import { isData, isLocal, localResponse } from "./local.js";
 import { refusedBecause, refusedBy, refusedSince } from "./refused.js";
 import { ENDS, responseOf } from "./responses.js";
 import { withOwnHeaders } from "./sent.js";
@@ -15,7 +15,11 @@ function clientOf({ url, top, referrerPolicy, policies, cookies }, referrer) {
   return new Client(referrer === null ? url : referrer, { top, referrerPolicy, policies, cookies });
 }
 
+// The engine looks at no more of a data: URL than its scheme, which may be longer than a URL is there.
 function requestOf(page, { url, referrer, request }) {
+  if (isData(absolute(url, page.url))) {
+    return new ScriptRequest("data:,", request);
+  }
   return new ScriptRequest([null, page.url].includes(referrer) ? url : absolute(url, page.url), request);
 }
 

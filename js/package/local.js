@@ -1,12 +1,17 @@
-// `data:` and `blob:` URLs (Fetch, section 4.3), which Node's own `fetch` reads, behind what the engine says of them.
+// `data:` and `blob:` URLs (Fetch, section 4.3), which Node's own `fetch` reads, behind what the engine says of them. Each
+// is given as the URL Standard writes it.
 import { matchesIntegrity } from "./index.js";
 import { refusedBy } from "./refused.js";
 import { why } from "./why.js";
 
 const nodeFetch = globalThis.fetch; // a test may put a page's in its place
 
+export function isData(url) {
+  return url.startsWith("data:");
+}
+
 export function isLocal(url) {
-  return /^(data|blob):/i.test(url);
+  return isData(url) || url.startsWith("blob:");
 }
 
 // What policies forbid is told to `tell`; an enforced one among them is the error of this name.
@@ -20,15 +25,14 @@ function checkPolicies({ policies, client, request, tell }, of, name) {
 }
 
 async function readBy(url, { method = "GET" }) {
-  const scheme = url.slice(0, 5).toLowerCase();
-  const isHead = method.toUpperCase() === "HEAD";
-  if (scheme === "blob:" && method.toUpperCase() !== "GET") {
+  const asked = method.toUpperCase();
+  if (!isData(url) && asked !== "GET") {
     throw refusedBy("Scheme", "A blob: URL is asked by GET alone.");
   }
   try {
-    return await nodeFetch(url, { method: isHead ? "HEAD" : "GET" });
+    return await nodeFetch(url, { method: asked === "HEAD" ? asked : "GET" });
   } catch {
-    throw refusedBy("Scheme", scheme === "blob:" ? "The blob: URL stands for no Blob." : "The data: URL is none.");
+    throw refusedBy("Scheme", isData(url) ? "The data: URL is none." : "The blob: URL stands for no Blob.");
   }
 }
 

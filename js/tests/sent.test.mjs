@@ -152,6 +152,7 @@ describe("data: and blob: URLs", () => {
     const styles = await page.fetch(blob);
     assert.deepEqual([styles.type, styles.url, styles.headers.get("content-type"), await styles.text()],
       ["basic", blob, "text/css", "hey"]);
+    assert.equal((await (await page.fetch("DATA:," + "x".repeat(1000000))).text()).length, 1000000);
     assert.equal((await page.fetch("data:,x", { method: "HEAD" })).body, null);
     assert.equal(await (await page.fetch("data:,x", { method: "POST", body: "y", mode: "same-origin" })).text(), "x");
     assert.equal(server.seen.length, 0);
