@@ -58,7 +58,8 @@ def resolution(word: str) -> tuple[tuple[str, int], tuple[str, int]]:
     found = re.fullmatch(r"\+?([^:]+):(\d{1,5}):(\[[^\]]+\]|[^:,]+)", word)
     if not found:
         raise argparse.ArgumentTypeError("write it as HOST:PORT:ADDRESS")
-    return connection("%s:%s:%s:%s" % (*found.groups(), found.group(2)))
+    host, port, address = found.groups()
+    return connection(f"{host}:{port}:{address}:{port}")
 
 
 def form_part(word: str) -> str:

@@ -268,8 +268,8 @@ def unquoted(words: list[str]) -> list[tuple[str, str]]:
 
 @functools.lru_cache(64)
 def unquoted_of(words: tuple[str, ...]) -> list[tuple[str, str]]:
-    return [(word, "'%s'" % word.strip("'\"`")) for word in words
-            if QUOTED.fullmatch(word.strip("'\"`")) and not re.fullmatch("'[^'\"`]*'", word)]
+    return [(word, f"'{bare}'") for word, bare in ((word, word.strip("'\"`")) for word in words)
+            if QUOTED.fullmatch(bare) and not re.fullmatch("'[^'\"`]*'", word)]
 
 
 def near(words: list[str], asked: Asked) -> Near | None:

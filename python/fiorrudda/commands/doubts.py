@@ -73,7 +73,7 @@ def double_keys(root: Node) -> Iterator[tuple[int, str]]:
         seen = set()
         for key, _ in node.members:
             if key.value in seen:
-                yield key.start, 'the key "%s" stands twice in this object: the last one counts' % key.value
+                yield key.start, f'the key "{key.value}" stands twice in this object: the last one counts'
             seen.add(key.value)
 
 
@@ -124,11 +124,12 @@ def target_of(path: str) -> str:
 def no_use(path: str, method: str) -> str | None:
     """Why no request has this path or this method; None where one may."""
     if not path.startswith("/"):
-        return 'no request has the path "%s": write "%s"' % (path, target_of(path))
+        return f'no request has the path "{path}": write "{target_of(path)}"'
     if "#" in path:
-        return 'no request has a # in its path: write "%s"' % path.partition("#")[0]
+        before, _, _ = path.partition("#")
+        return f'no request has a # in its path: write "{before}"'
     if method != method.upper() and method.upper() in METHODS:
-        return 'no request has the method "%s": write "%s"' % (method, method.upper())
+        return f'no request has the method "{method}": write "{method.upper()}"'
     return None
 
 

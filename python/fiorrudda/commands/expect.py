@@ -64,7 +64,8 @@ def outcomes(paths: Sequence[str | None], given: argparse.Namespace) -> Iterator
 
 
 def tap(number: int, one: Outcome) -> list[str]:
-    first = "%sok %d - %s" % ("" if one.is_met else "not ", number, one.name.replace("#", "\\#"))
+    name = one.name.replace("#", "\\#")
+    first = f"{'' if one.is_met else 'not '}ok {number} - {name}"
     return [first] + ["# " + line for line in one.lines + [line for line in one.warnings if line not in one.lines]]
 
 

@@ -677,7 +677,7 @@ def misspelt(c: Case, wanted: Any) -> str | None:
 def key_of(result: Result) -> str:
     if not result.is_refused():
         return "s"
-    return ("f%d" if result.is_fault else "%d") % result.number
+    return f"f{result.number}" if result.is_fault else str(result.number)
 
 
 def way_of(case: Case, key: str) -> Way | None:

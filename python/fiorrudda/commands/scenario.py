@@ -43,7 +43,7 @@ def origin_of(url: str) -> str | None:
     if parts.scheme not in DEFAULT_PORTS or not host:
         return None
     host = f"[{host}]" if ":" in host else host
-    return "%s://%s%s" % (parts.scheme, host, "" if port in (None, DEFAULT_PORTS[parts.scheme]) else f":{port}")
+    return f"{parts.scheme}://{host}" + ("" if port in (None, DEFAULT_PORTS[parts.scheme]) else f":{port}")
 
 
 def joined(url: str, base: str) -> str:

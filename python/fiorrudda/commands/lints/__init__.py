@@ -105,7 +105,7 @@ class Place:
         value = node.items[int(finding.at)].items[0 if finding.is_name else 1]
         if finding.start is not None:
             return value.place_of(finding.start)
-        part = finding.text and re.search(r'(?<![^\s;,"])%s(?![^\s;,"])' % re.escape(finding.text), value.text)
+        part = finding.text and re.search(rf'(?<![^\s;,"]){re.escape(finding.text)}(?![^\s;,"])', value.text)
         return value.start + (part.start() if part else 0)
 
 

@@ -343,7 +343,7 @@ def star_behind_scheme(word: Word) -> Found:
 
 def one_slash(word: Word) -> Found:
     found = re.fullmatch(r"(https?|wss?):/?([^/].*)", word.text, re.I)
-    return found and "%s://%s" % found.groups()
+    return found and f"{found.group(1)}://{found.group(2)}"
 
 
 def other_address(word: Word) -> bool:
@@ -416,7 +416,7 @@ def meant_source(word: Word) -> str | None:
     inner = re.sub(r"%27|&#39;?|&quot;?|[()\[\]{}<>]", "", text)
     if inner.lower() in grammar.KEYWORDS:
         return quoted(inner.lower())
-    for form, meant in ((r"(https?|wss?)//+(.+)", r"\1://\2"), (r"//(.+)", r"%s://\1" % word.policy.headers.scheme),
+    for form, meant in ((r"(https?|wss?)//+(.+)", r"\1://\2"), (r"//(.+)", rf"{word.policy.headers.scheme}://\1"),
                         (r"([a-z]+://)[^/@]*@(.+)", r"\1\2"), (r"\.?(/.*)", page + r"\1")):
         found = re.fullmatch(form, text, re.I)
         if found and grammar.HOST.fullmatch(found.expand(meant)):

@@ -21,7 +21,7 @@ if TYPE_CHECKING:
 
 HEADER = "Strict-Transport-Security"
 LATE = 9999999999  # a second of the year 2286
-TYPOGRAPHIC = "[%s]" % QUOTES.strip("\"'`")
+TYPOGRAPHIC = "[" + QUOTES.strip("\"'`") + "]"
 # The text of a value, and the whole value as it was meant; and what else is said of some.
 Meant = namedtuple("Meant", "text whole other", defaults=[""])
 

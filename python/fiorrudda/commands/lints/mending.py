@@ -72,7 +72,8 @@ def with_slash(word: Word, meant: Any) -> list[str]:
 
 def in_base64(word: Word, meant: Any) -> list[str]:
     algorithm, digits = there(grammar.HASH.fullmatch(word.inner or "")).groups()
-    return ["'%s-%s'" % (algorithm, base64.b64encode(bytes.fromhex(digits)).decode("ascii"))]
+    value = base64.b64encode(bytes.fromhex(digits)).decode("ascii")
+    return [f"'{algorithm}-{value}'"]
 
 
 def with_wildcard_in_front(word: Word, meant: Any) -> list[str] | None:
