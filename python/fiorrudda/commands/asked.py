@@ -230,8 +230,8 @@ class Answered:
         yield from (f"{exchange.origin}: {flaw}: Chromium and Firefox read it all the same, and other programs may "
                     "not: send all of it, as it was compressed" for flaw in stream.flaws)
         if stream.codings and stream.is_opened and len(stream.codings) < len(there(value).split(",")):
-            yield (f"{exchange.origin}: with `Content-Encoding: {value}` Chromium gives the page the bytes as they came, "
-                   "and Firefox decodes them, as is done here: name the coding alone")
+            yield (f"{exchange.origin}: with `Content-Encoding: {value}` Chromium gives the page the bytes as they "
+                   "came, and Firefox decodes them, as is done here: name the coding alone")
 
     @property
     def is_uncoded(self) -> bool:
@@ -254,8 +254,8 @@ class Answered:
                     f"server {self.codings_of_browsers()}")
         if not self.varying:
             return None
-        return (f"{self.varying[0]}: what comes may depend on Accept-Encoding, of which a browser sends its own and this "
-                f"request said identity: --compressed asks with `{codings.accepted()}`")
+        return (f"{self.varying[0]}: what comes may depend on Accept-Encoding, of which a browser sends its own and "
+                f"this request said identity: --compressed asks with `{codings.accepted()}`")
 
     def codings_of_browsers(self) -> str:
         """Which codings a browser names to the server that was asked last."""

@@ -900,7 +900,8 @@ class Case:
     def is_broken_first(self) -> bool:
         """Whether a browser refuses for its lengths an answer that the engine refuses for what comes behind them."""
         is_refused = self.result.is_refused() and self.head is not None and self.is_direct
-        return is_refused and self.has_body and len(self.lengths) > 1 and there(self.explanation).way != "body/two-lengths"
+        return (is_refused and self.has_body and len(self.lengths) > 1
+                and there(self.explanation).way != "body/two-lengths")
 
     @cached_property
     def coded_fault(self) -> Cut | None:
@@ -960,7 +961,8 @@ class Case:
         if there(self.cut).is_broken:
             return str(self.cut)
         if there(self.cut).outer:
-            return f"the body is {', '.join(there(self.cut).outer[::-1])} alone, and Content-Encoding says `{self.coding}`"
+            outer = ", ".join(there(self.cut).outer[::-1])
+            return f"the body is {outer} alone, and Content-Encoding says `{self.coding}`"
         return f"the body is not {there(self.cut).coding}, as Content-Encoding says"
 
     @property
@@ -1033,8 +1035,8 @@ class Case:
         """What is to be installed, where that is all that a coding lacks here."""
         from fiorrudda.commands import codings  # which bin/ask alone needs
         is_lacking = "br" in codings.lacking(self.coding)
-        return (", since there is neither node nor python3's module brotli: install Debian's package python3-brotli, or "
-                "brotli by pip") if is_lacking else ""
+        return (", since there is neither node nor python3's module brotli: install Debian's package python3-brotli, "
+                "or brotli by pip") if is_lacking else ""
 
     @property
     def or_install(self) -> str:

@@ -330,5 +330,6 @@ def with_host(scheme: str | None, host: str, port: str | None, path: str | None,
 
 
 # The likelier mistakes first.
-REWRITTEN: tuple[tuple[str, Callable[..., str | None]], ...] = (("colon", with_colon), ("path-star", without_star), ("path-slash", with_other_slash), ("path", with_folder),
-             ("port", with_port), ("scheme", with_scheme), ("host", with_host))
+REWRITTEN: tuple[tuple[str, Callable[..., str | None]], ...] = (
+    ("colon", with_colon), ("path-star", without_star), ("path-slash", with_other_slash), ("path", with_folder),
+    ("port", with_port), ("scheme", with_scheme), ("host", with_host))

@@ -100,7 +100,8 @@ def rules_without_use(scenario: Scenario) -> Iterator[tuple[int, str]]:
 
 
 def without_use(rules: list[Object], nodes: list[Node]) -> Iterator[tuple[int, str]]:
-    first: dict[tuple[str | None, str | None], int] = {}  # the number of the first rule with this method and this path; None is any
+    # the number of the first rule with this method and this path; None is any
+    first: dict[tuple[str | None, str | None], int] = {}
     for index, rule in enumerate(rules):
         method, path = rule.get("method"), rule.get("path")
         wider = [first[key] for key in {(method, path), (method, None), (None, path), (None, None)} if key in first]
@@ -227,5 +228,6 @@ def cookies_elsewhere(scenario: Scenario, play: Play) -> Iterator[tuple[int, str
     for index, (origin, _) in enumerate(scenario.data.get("cookies", [])):
         near = by_host.get(host_of(origin))
         if origin not in asked and near:
-            yield there(node).items[index].start, (f"this cookie is of {origin}, and the requests go to {near}: a scenario's "
-                                            "cookies have a scheme and a port")
+            yield there(node).items[index].start, (
+                f"this cookie is of {origin}, and the requests go to {near}: a scenario's cookies have a scheme and a "
+                "port")

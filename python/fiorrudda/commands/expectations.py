@@ -34,7 +34,8 @@ if TYPE_CHECKING:
 SCHEMA = os.path.join(ROOT, "schema", "expect.schema.json")
 WAYS = [way.name for way in TABLE]
 OTHERS = ("sent", "never sent", *policy_questions.KEYS)  # the keys of `expect` that name no fetch
-OF_OUTCOMES = ("result", "body", "hides", "sees", "upgraded", "violations", "why")  # keys that stand in a fetch or a load
+# keys that stand in a fetch or a load
+OF_OUTCOMES = ("result", "body", "hides", "sees", "upgraded", "violations", "why")
 MOST_UNNAMED = 20  # lines
 ONLY_STRICT = "all came as expected; --strict alone makes it `not ok`, for these warnings:"
 # As a play prints it behind the word violation, as far as a test says it.
@@ -532,7 +533,8 @@ def of_case(case: Case, wanted: Any) -> Iterator[tuple[str, str]]:
         more = "; not compared, since it follows: " + edits.listed(following) if following else ""
         yield "result", f"expected {wanted['result']}; it came to {came_to(case)}{more}"
     elif wanted_refusals.untested(case, wanted):
-        yield "result", f"expected {wanted['result']}; it came to {case.result.short()}, but {wanted_refusals.untested(case, wanted)}"
+        untested = wanted_refusals.untested(case, wanted)
+        yield "result", f"expected {wanted['result']}; it came to {case.result.short()}, but {untested}"
     told = {key: list(LOOKS[key](case, wanted[key])) for key in keys}
     if told.get("upgraded"):  # so it was sent elsewhere
         told.pop("sent", None)

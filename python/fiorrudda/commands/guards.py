@@ -123,7 +123,7 @@ def notes(headers: Pairs, mode: str) -> Iterator[str]:
     if unsafe:
         own = {"user-agent": "browsers send their own"}
         dropped = told([(name, own.get(name.lower(), "")) for name in unsafe])
-        yield ("dropped, since in mode no-cors a script sets Accept, Accept-Language, Content-Language and Content-Type "
-               f"alone, with values that a form could send: {dropped}")
+        yield ("dropped, since in mode no-cors a script sets Accept, Accept-Language, Content-Language and "
+               f"Content-Type alone, with values that a form could send: {dropped}")
     if any(name.lower() == "user-agent" and (name, value) in left for name, value in others):
         yield USER_AGENT

@@ -153,8 +153,8 @@ class Said:
         hints = [name for name, _ in self.headers if name.lower() in HINTS]
         if hints and self.is_copied and self.is_foreign():
             names = ", ".join(f"`{name}`" for name in hints)
-            self.note(f"the browser may have added {names} by itself (client hints), which asks for no preflight: leave "
-                      "out what no script has set; what one has set has to stand in Access-Control-Allow-Headers")
+            self.note(f"the browser may have added {names} by itself (client hints), which asks for no preflight: "
+                      "leave out what no script has set; what one has set has to stand in Access-Control-Allow-Headers")
 
     def reason_against(self, word: str, value: str) -> str | None:
         if word == "user-agent" and (self.load or self.mode == "no-cors"):  # where no script sets one

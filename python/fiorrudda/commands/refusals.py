@@ -24,7 +24,8 @@ ONLY_THE_PROGRAM = [
     (r"/(?:url|top)$", "this is no http or https URL without user name and password, and of at most 8,192 bytes"),
     (r"/hsts/\d+/host$", "this is no domain as URLs have it: lower case, no address, no port"),
     (r"/(?:origin|cookies/\d+/0|routes/\d+/0)$",
-     "this is no origin as URLs have it: scheme, ://, the host in lower case, and a port that is not the scheme's default"),
+     "this is no origin as URLs have it: scheme, ://, the host in lower case, and a port that is not the scheme's "
+     "default"),
     (r"/cookies/\d+/1$", "a cookie's value has 1 to 4,096 bytes"),
     (r"/repeat$", "at most eight repeat stand inside each other: this is one more"),
     (r"/if$", "at most sixteen if stand inside each other: this is one more"),
@@ -39,7 +40,8 @@ FAMILIAR = {"uri": "url", "href": "url", "src": "url", "type": "kind", "withcred
 OWNERS = {"server": "a server", "rule": "a rule of a server", "fetch": "the fetch", "load": "the load",
           "document1": "a document", "document2": "a document", "format1": "the scenario", "format2": "the scenario",
           "host": "a known host"}
-TYPES = {"object": "an object", "array": "a list", "string": "a text", "integer": "a whole number", "boolean": "true or false"}
+TYPES = {"object": "an object", "array": "a list", "string": "a text", "integer": "a whole number",
+         "boolean": "true or false"}
 GIVEN = {"object": "an object", "list": "a list", "string": "a text"}
 
 
@@ -279,8 +281,8 @@ def other_form(problem: Problem, schema: Schema) -> str:
     if problem.is_of("request") or problem.is_of("sent"):
         return 'this is no request: write "PUT /x", or {"request": "PUT /x", "has": {"Cookie": true}}'
     if problem.path[-1:] == ["upgraded"]:
-        return ('these are no URLs: write one, such as "https://b.test/logo.png mixed", a list of them, or [] where there '
-                "is no upgrade")
+        return ('these are no URLs: write one, such as "https://b.test/logo.png mixed", a list of them, or [] where '
+                "there is no upgrade")
     if problem.is_of("urls"):
         return 'these are no URLs: write each behind what loads it, such as "script https://cdn.example/app.js"'
     if problem.is_of("outcome"):
@@ -364,5 +366,5 @@ def advice_on_url(value: str) -> str:
 
 
 ADVICE = {"origin": advice_on_origin, "template": advice_on_template}
-SENTENCES = {"unknown": unknown_key, "missing": missing_key, "beside": key_beside, "type": other_type, "word": other_word,
-             "number": other_number, "length": other_length, "form": other_form, "text": other_text}
+SENTENCES = {"unknown": unknown_key, "missing": missing_key, "beside": key_beside, "type": other_type,
+             "word": other_word, "number": other_number, "length": other_length, "form": other_form, "text": other_text}

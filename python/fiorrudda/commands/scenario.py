@@ -165,7 +165,8 @@ class Scenario:
         self.more_asks: dict[int, list[tuple[str, str]]] = {}  # as ask_besides has it
         self.untrusted: set[int] = set()  # the numbers of documents of which a test wants all refused
         self.budget: Budget | None = None  # of what is mended
-        self.answers: dict[tuple[int | None, int | None], Answer] = {}  # of its rules, by the numbers of the server and the rule
+        # of its rules, by the numbers of the server and the rule
+        self.answers: dict[tuple[int | None, int | None], Answer] = {}
 
     def servers(self) -> list[Object]:
         found: list[Object] = self.data.get("servers", [])

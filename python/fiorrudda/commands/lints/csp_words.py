@@ -275,7 +275,8 @@ def wildcard_inside(word: Word) -> Found:
 
 
 def with_star_in_front(text: str) -> str | None:
-    """`*.` and the domain behind the label that has the star, where that is no top level; else behind the star itself."""
+    """`*.` and the domain behind the label that has the star, where that is no top level; else behind the star
+    itself."""
     behind_label, behind_star = (re.fullmatch(r"(.*://)?" + form + r"([^/:*]+\.[^/:*]+)([:/].*)?", text)
                                  for form in (r"[^/:]*\*[^./:]*\.", r"\*"))
     found = behind_label or behind_star
@@ -284,7 +285,8 @@ def with_star_in_front(text: str) -> str | None:
 
 def wildcard_scheme(word: Word) -> Found:
     found = re.match(r"\*:/*(.*)", word.text)
-    return bool(found) and not re.fullmatch(r"\*:(\d+|\*)(/.*)?", word.text) and "https://" + (there(found).group(1) or "*")
+    is_port = re.fullmatch(r"\*:(\d+|\*)(/.*)?", word.text) is not None
+    return found is not None and not is_port and "https://" + (found.group(1) or "*")
 
 
 def wildcard_path(word: Word) -> Found:
