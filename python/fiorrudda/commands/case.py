@@ -586,7 +586,7 @@ class Case:
         return [one for one in self.questions() if self.is_violation(one)]
 
     def questions(self) -> Iterator[Violation]:
-        """Of each URL of the chain each policy, as a violation that there may be. No enforced one is asked of what
+        """A violation that there may be for each URL of the chain and each policy. No enforced one is asked of what
         another rule refuses before."""
         effective, hops = csp.EFFECTIVE[self.kind], self.hops + self.hops_ahead if self.is_asked_for else []
         for index, hop in enumerate(hops):
@@ -1406,7 +1406,7 @@ class Case:
 
     def unexposed_names(self, head: Head | None) -> list[str]:
         """The headers that the script will miss once an answer is read: those of the answer, as far as it is known, and
-        those that the script reads. Of an answer that redirects none is read."""
+        those that the script reads. No header is read of an answer that redirects."""
         if self.command.is_load or head is not None and head.status in REDIRECTS:
             return []
         exposing = head.get(EXPOSE_HEADERS) if head else None

@@ -188,8 +188,8 @@ def upgrade_problem(wanted: Any) -> str | None:
 
 
 def scenario_of(node: Node, text: str, path: str | None) -> tuple[bytes, str]:
-    """The bytes of the scenario, and the name of its file. Of one that stands in the test the places are those of the
-    test."""
+    """The bytes of the scenario, and the name of its file. Where it stands in the test, the places are those of
+    the test."""
     if node.kind == "object":
         before = re.sub(r"[^\n]", " ", text[:node.start])
         return (before + text[node.start:node.end]).encode("utf-8"), path or "standard input"
@@ -293,8 +293,8 @@ def unnamed(expect: Object, told: Told) -> Iterator[str]:
 
 
 def hint_of(key: str, case: Case) -> str:
-    """What a test says to want what came. Of what policies report alone the result says nothing of them: the violations
-    do, or that there is to be none."""
+    """What a test says to want what came. The result says nothing of policies that only report: the violations do, or
+    that there is to be none."""
     came = as_it_came(case)
     reported = [one for one in findings.violations(case) if one["disposition"] == "report"]
     if not reported or case.is_unloaded:
@@ -305,8 +305,8 @@ def hint_of(key: str, case: Case) -> str:
 
 
 def as_it_came(case: Case) -> Any:
-    """What a test says to want what came. Of a URL that this engine never loads the result alone would hold under
-    every policy."""
+    """What a test says to want what came. The result alone would hold under every policy for a URL that this engine
+    never loads."""
     if not case.is_unloaded:
         return next(iter(result_words(case)), case.result.short())
     return {"result": word_of(case), "violations": short_violations(findings.violations(case))}
@@ -376,7 +376,7 @@ def is_reported_alone(case: Case, wanted: Object) -> bool:
 
 
 def under_any_policy(key: str, case: Case, wanted: Any, are_many: bool) -> Iterator[str]:
-    """Of a URL that this engine never loads that a test wants of it what comes whatever the page's policies say."""
+    """That a test wants of a URL, which this engine never loads, what comes whatever the page's policies say."""
     is_asked = case.is_unloaded and not case.is_mixed_socket and case.policies and "violations" not in wanted
     result = wanted.get("result")
     if is_asked and (result is None or all(is_met(result, as_if(case, word)) for word in ("refused", "none"))):
@@ -551,7 +551,7 @@ def came_to(case: Case) -> str:
 
 
 def is_met(wanted: Any, result: Result) -> bool:
-    """Of an answer that is let in, and does not come whole, neither `read` nor `not read` holds."""
+    """Neither `read` nor `not read` holds for an answer that is let in, and does not come whole."""
     is_negated, rest = results.negated(wanted)
     if is_negated and rest == "read":
         return not results.is_let_in(result)
@@ -633,7 +633,7 @@ def look_at_upgrades(case: Case, wanted: Any) -> Iterator[str]:
 
 
 def why_plain(case: Case, wanted: Any) -> str:
-    """Why the last URL was not upgraded. Of HSTS nothing is said where another cause is expected."""
+    """Why the last URL was not upgraded. It says nothing of HSTS where another cause is expected."""
     is_of_hsts = all(one.partition(" ")[2] in ("", "hsts") for one in wanted)
     own = known_hosts.why_unknown(case.hops[-1].asked) if case.hops and is_of_hsts else ""
     why = case.stays_plain or own

@@ -163,7 +163,7 @@ PREFLIGHTS = [
         "`*` in Access-Control-Allow-Headers does not cover Authorization", ALLOW_HEADERS,
         "list it by its name: {change}", PREFLIGHT, changes.cors),
     Way("preflight/header-of-answers", "11", lambda c: c.result.detail in c.stray_names,
-        "the script sets {c.result.detail}, which is a header of answers and does nothing in a request, but that a "
+        "the script sets {c.result.detail}, which is a header of answers and does nothing in a request, except that a "
         "preflight asks for it", ALLOW_HEADERS, "{change}", PREFLIGHT, changes.cors),
     Way("preflight/user-agent", "11", lambda c: c.result.detail == "user-agent",
         "the script sets User-Agent, as a command line of curl does, and the answer to the preflight does not list it; "
@@ -559,7 +559,7 @@ def way_lines() -> Iterator[str]:
         yield f"{way.name} ({way.results}): {condition}"
 
 
-# Of these nothing was sent to the server: what CORS will want of it is said at once.
+# Here nothing was sent to the server: what CORS will want of it is said at once.
 UNSENT = [way for way in TABLE if way.results in ("3", "4") or way.name in ("head/no-server", "same-origin/other")]
 
 
@@ -668,7 +668,7 @@ def exposed(edit: Edit, is_unknown: bool) -> str:
 
 
 def exposed_too(edit: Edit, c: Case, needs: Needs) -> str:
-    """The same behind a change. Of headers that the script reads it is no question."""
+    """The same behind a change. It does not ask about headers that the script reads."""
     names = {name.lower() for name in c.unexposed_names(needs.own)}
     read = [name for name in dict.fromkeys(c.read_names) if name.lower() in names]
     why = f"since the script reads {edits.listed(read)}" if read else "where the script is to see these headers"

@@ -118,7 +118,7 @@ def is_of_preflight(wanted: Object) -> bool:
 
 
 def lines(case: Case, wanted: Object, failed: Container[str]) -> list[str]:
-    """Of a fetch of which something failed that a test wants."""
+    """The lines for a fetch that did not do all that a test wants."""
     own = case.explanation.reasons() if case.explanation else []
     if untested(case, wanted):
         is_of_link = there(case.explanation).way.startswith("link/")

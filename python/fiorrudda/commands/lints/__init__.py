@@ -269,7 +269,7 @@ def noted(told_play: Told) -> list[tuple[str, Any]]:
 
 
 def told_once(rows: Sequence[tuple[str, Any]]) -> list[tuple[str, Any]]:
-    """Of pairs of a line and of what slip it is those that are told: of many that are alike two, and the second says
-    how many more there are."""
+    """The lines that are told, among pairs of a line and its slip: two of many that are alike, and the second says how
+    many more there are."""
     found = zip(rows, ends([slip for _, slip in rows]))
     return [(line + end, slip) for (line, slip), end in found if end is not None]

@@ -87,7 +87,7 @@ def of_webrtc(word: Word, meant: Any) -> list[str] | None:
 
 
 def of_scripts(word: Word, meant: Any) -> list[str] | None:
-    """Of default-src the directive is mended."""
+    """A word of default-src is left: its directive is mended."""
     return None if word.directive.name == "default-src" else []
 
 
