@@ -3,5 +3,7 @@ import "./tests/package.test.mjs";
 import "./tests/engine.test.mjs";
 import "./tests/rules.test.mjs";
 import "./tests/pages.test.mjs";
+import "./tests/bodies.test.mjs";
+import "./tests/sent.test.mjs";
 import "./tests/scenarios.test.mjs";
 import "./tests/example.test.mjs";

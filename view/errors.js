@@ -31,7 +31,7 @@ const ERROR_TEXTS = {
   BadLocation: ["The Location of the redirect gives no URL, or is there twice.", "rules/redirects.md#the-ten-steps"],
   RedirectScheme: ["The redirect leads to a URL that is neither http nor https.", "rules/redirects.md#the-ten-steps"],
   TooManyRedirects: ["Twenty redirects were followed, and this is one more.", "rules/redirects.md#the-ten-steps"],
-  RedirectCredentials: ["The redirect leads to another origin by a URL with a user name or a password.",
+  RedirectCredentials: ["The redirect's URL has a user name or a password, which CORS refuses.",
     "rules/redirects.md#the-ten-steps"],
   CspResponse: ["An enforced policy of the document does not let the response pass.",
     "rules/final-checks.md#1-the-policies"],

@@ -140,14 +140,19 @@ function pairsOf(headers) {
 
 const freed = new FinalizationRegistry((at) => engine.free(at));
 
+function newHandle() {
+  const at = engine.handle();
+  if (at === 0n) {
+    throw new OutOfMemory();
+  }
+  return at;
+}
+
 class Thing {
   #at;
 
   constructor(make) {
-    const at = engine.handle();
-    if (at === 0n) {
-      throw new OutOfMemory();
-    }
+    const at = newHandle();
     this.#at = at;
     try {
       told(make(at));
@@ -184,20 +189,28 @@ class Thing {
 
 const { at: handleOf } = Thing;
 
-// Calls `use` with the handle of a thing; one that is made for it is freed then.
-function withList(headers, use) {
+// ---- header lists
+
+function append(list, name, value) {
+  told(calls.append(engine, list, headerText(name), headerText(value)));
+}
+
+// Calls `use` with the handle of a list; one that is made for it is freed then.
+function withList(headers = [], use) {
   if (headers instanceof HeaderList) {
     return use(handleOf(headers));
   }
-  const list = new HeaderList(headers);
+  const list = newHandle(); // no registry has to know what nobody else holds
   try {
-    return use(handleOf(list));
+    told(calls.headers(engine, list));
+    for (const [name, value] of pairsOf(headers)) {
+      append(list, name, value);
+    }
+    return use(list);
   } finally {
-    list.free();
+    engine.free(list);
   }
 }
-
-// ---- header lists
 
 export class HeaderList extends Thing {
   constructor(headers = []) {
@@ -213,7 +226,7 @@ export class HeaderList extends Thing {
   }
 
   append(name, value) {
-    told(calls.append(engine, handleOf(this), headerText(name), headerText(value)));
+    append(handleOf(this), name, value);
     return this;
   }
 

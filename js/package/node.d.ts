@@ -5,14 +5,26 @@ import type { Book, NetworkErrorName, Policies, ReferrerPolicy, RequestFault, Te
  * without TLS, unless an https URL names it or it is a server of TLS. */
 export type Place = number | string | { address(): unknown };
 
-/** What `cause` is of the TypeError with which a `fetch` rejects: the engine's number and name, and why. Network errors
- * and faults of a request have numbers of their own: `name` says which it is. */
-export interface Cause {
+/** What `cause` is of the TypeError with which a `fetch` rejects: the engine's name, and why. */
+export type Cause = ErrorCause | FaultCause;
+
+/** A network error. */
+export interface ErrorCause {
   readonly number: number;
-  readonly name: NetworkErrorName | RequestFault;
+  readonly faultNumber?: undefined;
+  readonly name: NetworkErrorName;
   readonly why: string;
   /** The header that a preflight did not allow. */
   readonly header?: string;
+}
+
+/** No request can be made. Its faults have numbers of their own. */
+export interface FaultCause {
+  readonly faultNumber: number;
+  readonly number?: undefined;
+  readonly name: RequestFault;
+  readonly why: string;
+  readonly header?: undefined;
 }
 
 export interface PageInit {
@@ -49,7 +61,10 @@ export class Page {
   /** The violations of the page's policies, in the order in which they came. */
   readonly violations: Violation[];
   /** What the page's own `fetch` does. It may be handed on by itself, as `globalThis.fetch = page.fetch`. It resolves
-   * once the body has come. Bodies that are sent are no streams. Of answers none is cached or coded, and no URL is
-   * `data:` or `blob:`. */
+   * with the head, or with `integrity` once the body has come, and rejects where the page's would. The body comes as a
+   * stream, which `signal` ends; one that is cut, or not what Content-Encoding says, fails while it is read. A page adds
+   * Sec-Fetch-Site, -Mode and -Dest to the head that the engine says is sent, names gzip, deflate and br as codings, and
+   * what `cache` asks of caches: none is here. Bodies that are sent are no streams. `data:` and `blob:` URLs are read by
+   * Node's own `fetch`, once the policies let them pass. */
   fetch(this: void, input: string | URL | Request, init?: RequestInit): Promise<Response>;
 }

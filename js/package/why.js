@@ -1,9 +1,6 @@
 // Why a fetch came to a network error, in a sentence or two: what the server said, and what it would have to say.
+import { valuesOf } from "./answers.js";
 import { ERROR_TEXTS } from "./refusals.js";
-
-function valuesOf(headers, name) {
-  return headers.filter(([one]) => one.toLowerCase() === name).map(([, value]) => value);
-}
 
 // Why an answer fails the CORS check.
 function corsRefused({ sent, head, includes }) {
@@ -32,6 +29,27 @@ function listed(head, name) {
   return values.length === 0 ? "has no " + name : "says `" + name + ": " + values.join(", ") + "`";
 }
 
+// Of a request that a policy forbids. A violation names the first URL, and the answer that redirects the one that is
+// refused.
+function forbidden({ violation: { directive, url }, sent, head }) {
+  const [location] = head === undefined ? [] : valuesOf(head.headers, "location");
+  const said = "The page's policy forbids it: " + directive + " does not let ";
+  if (location === undefined) {
+    return said + url + " pass.";
+  }
+  const from = sent.origin + sent.target;
+  const to = new URL(Buffer.from(location, "latin1").toString(), from);
+  return said + to + " pass, to which " + from + " redirects. The violation names " + url + ".";
+}
+
+function linkFault({ sent, fault }) {
+  if (fault !== undefined && fault.code === "NOT_CACHED") {
+    return "The cache mode is only-if-cached, and nothing is cached here.";
+  }
+  return "The connection to " + sent.origin + " failed" + (fault ? ": " + fault.message : "")
+    + ". `Page.connectTo` maps a name to a local server.";
+}
+
 const SENTENCES = {
   CorsCheck: corsRefused,
   PreflightCors: corsRefused,
@@ -40,10 +58,8 @@ const SENTENCES = {
     + ", which does not allow " + (valuesOf(sent.headers, "access-control-request-method")[0] || "the method") + ".",
   PreflightHeader: ({ head, header }) => "The answer to the preflight " + listed(head, "Access-Control-Allow-Headers")
     + ", which does not allow `" + header + "`.",
-  CspRequest: ({ violation }) => "The page's policy forbids it: " + violation.directive + " does not let " + violation.url
-    + " pass.",
-  LinkFault: ({ sent, fault }) => "The connection to " + sent.origin + " failed" + (fault ? ": " + fault.message : "")
-    + ". `Page.connectTo` maps a name to a local server.",
+  CspRequest: forbidden,
+  LinkFault: linkFault,
 };
 
 // `known` has what the page saw: the last request and head, the last violation of an enforced policy, and the connection's

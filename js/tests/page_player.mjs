@@ -122,12 +122,12 @@ async function responseSeen(response) {
   return { result: "response", type, status, url, headers, body: await bodySeen(response) };
 }
 
-function errorSeen(error, faults) {
+function errorSeen(error) {
   if (error.cause === undefined) {
     throw error;
   }
-  const { number, name, header = null } = error.cause;
-  return { result: "error", fault: Object.hasOwn(faults, name), number, name, header };
+  const { faultNumber, number = faultNumber, name, header = null } = error.cause;
+  return { result: "error", fault: faultNumber !== undefined, number, name, header };
 }
 
 // Plays a scenario by a Page of the package `made`, which has what its modules node.js, index.js and names.js export.
@@ -175,7 +175,7 @@ class Player {
     try {
       return await responseSeen(await this.page.fetch(asked.url, initOf(asked)));
     } catch (error) {
-      return errorSeen(error, this.made.REQUEST_FAULTS);
+      return errorSeen(error);
     }
   }
 

@@ -52,5 +52,6 @@ list[Symbol.dispose]();
 Page.connectTo({ "https://api.example": 3000 });
 const page = new Page("https://app.example/", { policies: ["connect-src 'self'"] });
 page.fetch("/cart", { credentials: "include" }).then((answer: Response) => answer.text(),
-  (error: TypeError & { cause: Cause }) => console.log(error.cause.why));
+  (error: TypeError & { cause: Cause }) => console.log(error.cause.why, error.cause.number === undefined
+    ? error.cause.name === "BadUrl" : error.cause.name === "CorsCheck"));
 globalThis.fetch = page.fetch;

@@ -207,6 +207,7 @@ _CALLS = {
     "book_text": _HELD + _ROOM,
     "book_of_text": _HELD + _TEXT + [ctypes.POINTER(ctypes.c_uint64), ctypes.POINTER(ctypes.c_uint32)],
     "play": _TEXT + _ROOM,
+    "reports": _TEXT + _ROOM,
     "audit": _TEXT * 2 + _ROOM,
 }
 

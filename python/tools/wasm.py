@@ -29,6 +29,7 @@ FEATURES = ("memory64", "bulk-memory", "sign-ext", "mutable-globals", "nontrappi
             "reference-types")
 # What clang says of modules of another target.
 OF_TARGET = ("is not a recognized processor", "different target triples")
+SHUFFLE = "llvm.x86.ssse3.pshuf.b.128"
 STACK = 1 << 20  # bytes, at the beginning of the memory: what goes beyond traps
 ROOMS = ("room_of", "room_grow", "room_free", "room_limit", "room_used", "room_lent")
 # What the linker needs of the toolchain beside clang, which is asked through a script of ours.
@@ -66,6 +67,32 @@ def module_of(builder: built.Builder, name: str, room: pathlib.Path) -> None:
         built.fail(f"the toolchain compiled no LLVM module of {name}")
 
 
+def shuffle() -> str:
+    """The instruction that SHUFFLE names, in LLVM's own terms: a lane is that of the first whose index the second has,
+    or 0 where that is negative."""
+    lines, last = [], "poison"
+    for lane in range(16):
+        lines += [f"%at{lane} = extractelement <16 x i8> %by, i32 {lane}", f"%none{lane} = icmp slt i8 %at{lane}, 0",
+                  f"%low{lane} = and i8 %at{lane}, 15", f"%one{lane} = extractelement <16 x i8> %of, i8 %low{lane}",
+                  f"%lane{lane} = select i1 %none{lane}, i8 0, i8 %one{lane}",
+                  f"%made{lane} = insertelement <16 x i8> {last}, i8 %lane{lane}, i32 {lane}"]
+        last = f"%made{lane}"
+    head = "define internal <16 x i8> @shuffled(<16 x i8> %of, <16 x i8> %by) noinline {"
+    return "\n".join([head, *lines, f"ret <16 x i8> {last}", "}", ""])
+
+
+def without_x86(clang: pathlib.Path, module: pathlib.Path) -> None:
+    """Replaces the one instruction of x86 that a module may name, which no other target has."""
+    if SHUFFLE.encode() not in module.read_bytes():
+        return
+    text = module.with_suffix(".ll")
+    words = ["-O0", "-Xclang", "-disable-llvm-passes", "-emit-llvm", "-Wno-override-module", "-x", "ir"]
+    compiled(clang, [*words, "-S", "-Wno-unused-command-line-argument"], module, text)
+    lines = [line for line in text.read_text().splitlines() if not line.startswith("declare") or SHUFFLE not in line]
+    text.write_text("\n".join(lines).replace(f"@{SHUFFLE}", "@shuffled") + "\n" + shuffle())
+    compiled(clang, words, text, module)
+
+
 def joined(clang: pathlib.Path, modules: Sequence[pathlib.Path], made: pathlib.Path) -> None:
     """The object of all libraries: each has what it reaches of the others, and what is equal is kept once."""
     first, *others = modules
@@ -97,6 +124,8 @@ def make_module(made: pathlib.Path, room: pathlib.Path, jobs: int) -> None:
     names = built.libraries(builder.known)
     built.each(names, lambda it: module_of(builder, it, room), jobs)
     clang = builder.kit / "toolchain/bin/clang"
+    for name in names:
+        without_x86(clang, room / f"{name}.bc")
     joined(clang, [room / f"{name}.bc" for name in names], room / f"{NAME}.o")
     for name in OWN:
         words = ["-nostdlib", "-ffreestanding", "-ffunction-sections"]

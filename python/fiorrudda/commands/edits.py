@@ -249,7 +249,8 @@ def of_policy(edits: list[Edit]) -> str:
     beside = [one["beside"] for one in edits if "beside" in one and one["beside"] not in there]
     said = f"policy {edits[0]['policy']} say `{directives}`{of_slips(edits)}"
     said += f" beside its `{beside[0]}`" if beside else ""
-    return said + "".join(f", which it needs while it only reports: without `{one['reporting']}` once it is enforced"
+    return said + "".join(f", which it needs while it only reports: without `{one['reporting']}` once it is enforced, "
+                          "and the page itself has the https URL, since Firefox asks it about the http one"
                           for one in edits if "reporting" in one)
 
 

@@ -332,7 +332,7 @@ ANSWERS = [
     Way("redirect/many", "17", always, "twenty redirects were followed, and this is one more", "Location",
         "{change}; or shorten the chain", REDIRECTS, changes.next_url),
     Way("redirect/credentials", "18", always,
-        "the redirect leads to another origin by a URL with a user name or a password", "Location",
+        "the redirect's URL has a user name or a password, which CORS refuses", "Location",
         "take them out: {change}", REDIRECTS, changes.location(changes.location_without_credentials)),
     Way("policy/response", "19", always,
         "{c.policy} has `{c.directive_text}`, and no word of it matches the URL of the response, {c.policy_url}", "",

@@ -30,7 +30,8 @@ NONE_GIVEN_TO_SITE = NONE_GIVEN + "of the page's own site, so SameSite keeps non
 NONE_GIVEN_TO_OTHER = NONE_GIVEN + "of another site: " + SAME_SITE
 
 LOCAL = ("{host} is this machine or of a local network: where the page comes from the internet, Chromium first asks "
-         "the user for a permission (local network access), which is not played here")
+         "the user for a permission, and refuses where the page is not https (local network access), which is not "
+         "played here")
 
 PASSED_FIRST = "once the preflight passes, "
 

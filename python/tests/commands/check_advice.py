@@ -531,7 +531,8 @@ class Checks(base.Checks):
              "ask for"),
             ("a POST that leads to itself as a GET", "(cors/absent-on-redirect)", "no end"),
             ("a report of what is upgraded", "; or let policy 0 say `img-src https://img.test http://img.test`, which "
-             "it needs while it only reports: without `http://img.test` once it is enforced\n", None),
+             "it needs while it only reports: without `http://img.test` once it is enforced, and the page itself has the "
+             "https URL, since Firefox asks it about the http one\n", None),
             ("policy/path", "let policy 0 say `connect-src https://api.test/UI/ https://api.test/ui/3.2/`",
              "no word of it"),
             ("mixed content of a host that was known", "; api.test was a known host (HSTS) until second 10, and it is "

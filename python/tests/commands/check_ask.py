@@ -909,7 +909,7 @@ class Checks(base.Checks):
             (b"gzip, gzip", gzip, 1, "change: let Content-Encoding say `gzip` alone: look for a program and a proxy"),
             (b"gzip", packed(gzip, 31), 0, "the body is still gzip once it is decoded: the page gets it packed; compress it"),
             (b"gzip, gzip", packed(gzip, 31), 0, "the body came as gzip, gzip all the same"),
-            (b"br", b"?", 4 if codings.decoder("br") is None else 1, "br"),
+            (b"br", b"plain text, none of it", 4 if codings.decoder("br") is None else 1, "br"),
         ]
         for coding, body, wanted, part in rows:
             status, _, _, told = told_of(coded(coding, body))

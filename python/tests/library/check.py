@@ -231,10 +231,10 @@ class Rules(unittest.TestCase):
         calls, named = ({name for row in rows for name in re.findall(r"`([\w.]+)`", row[at])} for at in (0, 1))
         self.assertEqual(calls - {*engine._CALLS}, set())
         self.assertEqual(named, {name for name in f.__all__ if name[0].islower()} - {
-            "play", "audit", "judge", "judge_answer", "judge_many"} | {"Policies", "Book.note", "Book.is_known"})
+            "play", "reports", "audit", "judge", "judge_answer", "judge_many"} | {"Policies", "Book.note", "Book.is_known"})
         others = ("headers append get name_at value_at book book_text book_of_text client client_policy client_cookie "
                   "request load request_header request_text request_choose fetch act text number to_send input feed "
-                  "ask judge play audit")
+                  "ask judge play reports audit")
         self.assertEqual({*engine._CALLS} - calls, set(others.split()))
 
 
@@ -536,6 +536,14 @@ class Plays(unittest.TestCase):
                 f.play(scenario)
             self.assertEqual((refused.exception.place, str(refused.exception)), (place, place))
         self.assertRaises(TypeError, f.play, {"format": 1, "documents": {1, 2}})
+
+    def test_a_play_with_reports(self) -> None:
+        stored = TOP / "crates/cspreport"
+        self.assertEqual(f.reports((stored / "stdin").read_bytes()), (stored / "stdout").read_text())
+        many = {"format": 1, "documents": [{"url": "https://a.test/", "script": []}] * 17}
+        with self.assertRaises(f.NotAScenario) as refused:
+            f.reports(many)
+        self.assertEqual(refused.exception.place, "/documents")
 
     def test_a_play_is_audited(self) -> None:
         text = f.play(self.SCENARIO)
