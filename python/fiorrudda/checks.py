@@ -6,8 +6,8 @@
     Policies(["script-src 'self'"]).violations(page, script)        # what the policy says to it
     preflight(page, Request("https://api.example/", "PUT"))         # the bytes that ask the server first
 
-A list of headers is a `Headers`, a mapping, or pairs of a name and a value. `NoRequest` where no request can be made of what is
-asked for: `Fetch` says why.
+A list of headers is a `Headers`, a mapping, or pairs of a name and a value. `NoRequest` where no request can be made of
+what is asked for: `Fetch` says why.
 """
 import ctypes
 from typing import Any, Callable, Iterable, List, NamedTuple, Optional, Tuple, Union
@@ -32,8 +32,8 @@ _ERRORS = {number: name for name, number in NETWORK_ERRORS.items()}
 
 
 class Violation(NamedTuple):
-    """A violation: the policy's number, the enforced ones first; whether it is enforced; the effective directive; the URL
-    that is reported."""
+    """A violation: the policy's number, the enforced ones first; whether it is enforced; the effective directive; the
+    URL that is reported."""
 
     policy: int
     enforced: bool
@@ -42,8 +42,8 @@ class Violation(NamedTuple):
 
 
 class Verdict(NamedTuple):
-    """The verdict on a preflight's answer: for how many seconds it is learnt, or the number and name of the network error,
-    and the header that is not allowed."""
+    """The verdict on a preflight's answer: for how many seconds it is learnt, or the number and name of the network
+    error, and the header that is not allowed."""
 
     age: Optional[int]
     error: Optional[int] = None
@@ -83,8 +83,8 @@ def passes_cors_check(origin: Text, headers: Listed, credentials: Union[bool, st
 
 
 def keeps_from(page: Text, url: Text, headers: Listed) -> bool:
-    """Whether the answer of a URL is kept from a page in mode no-cors (Fetch, section 3.7, "cross-origin resource policy
-    check")."""
+    """Whether the answer of a URL is kept from a page in mode no-cors (Fetch, section 3.7, "cross-origin resource
+    policy check")."""
     answer = _list(headers)
     return _told(_lib.fiorrudda_resource_policy(*_lent(page), *_lent(url), answer._handle))
 
@@ -138,15 +138,15 @@ def upgrades(policies: Policies) -> bool:
 
 def violations(policies: Policies, client: Client, request: Asked, of: str = "enforced",
                redirect: Text = "") -> List[Violation]:
-    """The violations of the `enforced` or the `report-only` policies by a request, or of all by its `response`, redirected
-    to a URL if one is given (CSP 3, section 4.1)."""
+    """The violations of the `enforced` or the `report-only` policies by a request, or of all by its `response`,
+    redirected to a URL if one is given (CSP 3, section 4.1)."""
     return _Checking(of).violations(policies, client, request, redirect)
 
 
 def violations_many(triples: Iterable[Tuple[Policies, Client, Asked]],
                     of: str = "enforced") -> List[Union[List[Violation], FiorruddaError]]:
-    """`violations` of each of many triples of policies, a client and a request, in order. Where one has no answer, the error
-    stands in its place, which counts as true, as violations do."""
+    """`violations` of each of many triples of policies, a client and a request, in order. Where one has no answer, the
+    error stands in its place, which counts as true, as violations do."""
     checking = _Checking(of)
     return [checking.answer(*triple) for triple in triples]
 

@@ -4,7 +4,9 @@ import enum
 import json
 import os
 import pathlib
-from typing import Any, Callable, Iterable, List, Mapping, NamedTuple, NoReturn, Optional, Sequence, Tuple, TypeVar, Union
+from typing import (
+    Any, Callable, Iterable, List, Mapping, NamedTuple, NoReturn, Optional, Sequence, Tuple, TypeVar, Union,
+)
 
 from .names import CREDENTIALS, REQUEST_FAULTS
 
@@ -60,8 +62,8 @@ class NotAwaited(FiorruddaError):
 
 
 class NoRequest(FiorruddaError):
-    """No request can be made of what is asked for: the fault by its number and name, and a bad header's index. Number 0 where a
-    rule was asked, and not a fetch."""
+    """No request can be made of what is asked for: the fault by its number and name, and a bad header's index. Number 0
+    where a rule was asked, and not a fetch."""
 
     code = 11
     NAMES = ("", *REQUEST_FAULTS)
@@ -76,8 +78,8 @@ class NoRequest(FiorruddaError):
 
 
 class NotABook(FiorruddaError):
-    """A text is not the text of a book: its first line that is not as such a text has it, counted from 1, and why, by number
-    and name."""
+    """A text is not the text of a book: its first line that is not as such a text has it, counted from 1, and why, by
+    number and name."""
 
     NAMES = ("NoBook", "OtherFormat", "BadLine", "Order", "Full", "TooLong")
 
@@ -103,7 +105,8 @@ _ERRORS = {2: WrongHandle, 3: OutOfMemory, 5: NoSuchNumber, 6: NotAUrl, 7: NotHt
 
 
 class ReferrerPolicy(enum.IntEnum):
-    """The referrer policies (Referrer Policy, section 3). DEFAULT is no policy: strict-origin-when-cross-origin counts."""
+    """The referrer policies (Referrer Policy, section 3). DEFAULT is no policy: strict-origin-when-cross-origin
+    counts."""
 
     DEFAULT = 0
     NO_REFERRER = 1
@@ -117,7 +120,8 @@ class ReferrerPolicy(enum.IntEnum):
 
 
 class Sts(NamedTuple):
-    """What a Strict-Transport-Security field says: for how many seconds, and whether of the names under the host too."""
+    """What a Strict-Transport-Security field says: for how many seconds, and whether of the names under the host
+    too."""
 
     max_age: int
     include_subdomains: bool
@@ -348,8 +352,9 @@ Listed = Union[Headers, Mapping[Any, Any], Iterable[Tuple[Text, Text]]]
 
 
 class Book(_Thing):
-    """Known HSTS hosts, and the CORS-preflight cache. Times are in seconds since any fixed moment, which is 1970 for a book
-    that lasts over restarts. Threads that share one hold one common lock around each call of it, and around `Fetch.ask`."""
+    """Known HSTS hosts, and the CORS-preflight cache. Times are in seconds since any fixed moment, which is 1970 for a
+    book that lasts over restarts. Threads that share one hold one common lock around each call of it, and around
+    `Fetch.ask`."""
 
     def __init__(self) -> None:
         super().__init__(_lib.fiorrudda_book)
@@ -360,15 +365,16 @@ class Book(_Thing):
 
     @classmethod
     def read(cls, text: Text) -> "Book":
-        """The book that `export` wrote. `NotABook` where the text is not the text of a book: nothing is read of it then."""
+        """The book that `export` wrote. `NotABook` where the text is not the text of a book: nothing is read of it
+        then."""
         book, line, reason = cls(), ctypes.c_uint64(0), ctypes.c_uint32(0)
         if not _told(_lib.fiorrudda_book_of_text(book._handle, *_lent(text), line, reason)):
             raise NotABook(line.value, reason.value)
         return book
 
     def export(self) -> bytes:
-        """The book as a text, so that what it knows lasts over restarts: `read` reads it back as the same book. Its times are
-        those that the calls were given."""
+        """The book as a text, so that what it knows lasts over restarts: `read` reads it back as the same book. Its
+        times are those that the calls were given."""
         return _written(_lib.fiorrudda_book_text, self._handle) or b""
 
     def note(self, host: Text, field: Text, now: int) -> bool:
@@ -417,7 +423,8 @@ def is_forbidden_method(method: Text) -> bool:
 
 def source_matches(word: Text, url: Text, page: Text, redirects: int = 0) -> bool:
     """Whether a word of a policy matches a URL (CSP 3, "does url match expression in origin with redirect count")."""
-    return _told(_lib.fiorrudda_source_matches(*_lent(word), *_lent(url), *_lent(page), min(max(redirects, 0), 2**32 - 1)))
+    return _told(_lib.fiorrudda_source_matches(*_lent(word), *_lent(url), *_lent(page),
+                                               min(max(redirects, 0), 2**32 - 1)))
 
 
 def referrer(source: Text, target: Text, policy: ReferrerPolicy = ReferrerPolicy.DEFAULT) -> Optional[str]:

@@ -4,7 +4,8 @@ import os
 import sys
 
 _HERE = os.path.dirname(os.path.realpath(__file__))
-# Above this package in the repository; share/fiorrudda where a Debian package, or its tar, has put it into dist-packages.
+# Above this package in the repository; share/fiorrudda where a Debian package, or its tar, has put it into
+# dist-packages.
 _PLACES = [os.path.normpath(os.path.join(_HERE, up)) for up in ("../..", "../../../../share/fiorrudda")]
 ROOT = next((place for place in _PLACES if os.path.exists(os.path.join(place, "VERSION"))), _PLACES[0])
 

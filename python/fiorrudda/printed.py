@@ -22,7 +22,8 @@ def call_line(call: Call, reply: Optional[bool]) -> str:
         "match": lambda: [call.host],
         "note": lambda: [call.host, call.age, "sub" if call.include_subdomains else "exact"],
         "covers": lambda: [call.key, call.origin, include, call.method or "()", _listed(call.names), call.url],
-        "learn": lambda: [call.key, call.origin, include, call.age, _listed(call.methods), _listed(call.names), call.url],
+        "learn": lambda: [call.key, call.origin, include, call.age, _listed(call.methods), _listed(call.names),
+                          call.url],
         "clear": lambda: [call.key, call.origin, call.url],
     }
     words = made[call.name]()
@@ -57,7 +58,8 @@ def outcome_lines(outcome: Outcome, loads: bool) -> List[str]:
         return ["result loaded"]
     if isinstance(outcome, NetworkError):
         header = [] if outcome.header is None else [outcome.header]
-        return [f"result {'failed' if loads else 'error'} {' '.join(map(str, [outcome.number, outcome.name, *header]))}"]
+        return [f"result {'failed' if loads else 'error'} "
+                f"{' '.join(map(str, [outcome.number, outcome.name, *header]))}"]
     end = {"null": "none", "whole": f"whole {outcome.count}: {escaped(outcome.body or b'')}", "toobig": "toobig"}
     body = end.get(outcome.end, f"{outcome.end} {outcome.count}")
     url = "()" if outcome.url is None else outcome.url

@@ -17,11 +17,13 @@
 Who leaves `judge` out answers the acts `Ask` and `Tell` too, by `Fetch.ask` and `Fetch.told`.
 """
 import ctypes
-from typing import TYPE_CHECKING, Any, Callable, Dict, Iterable, Iterator, List, NamedTuple, Optional, Tuple, Type, Union
+from typing import (
+    TYPE_CHECKING, Any, Callable, Dict, Iterable, Iterator, List, NamedTuple, Optional, Tuple, Type, Union,
+)
 
 from .engine import (
-    Book, Buffer, Headers, Listed, Made, NoRequest, ReferrerPolicy, Text, _bytes, _flag, _Handle, _kept, _known, _lent, _lib,
-    _number_of, _pairs, _Thing, _time, _told, _written,
+    Book, Buffer, Headers, Listed, Made, NoRequest, ReferrerPolicy, Text, _bytes, _flag, _Handle, _kept, _known, _lent,
+    _lib, _number_of, _pairs, _Thing, _time, _told, _written,
 )
 from .names import CREDENTIALS, CROSSORIGINS, LOADS, MODES, REDIRECTS
 
@@ -106,7 +108,8 @@ class Tell(NamedTuple):
 
 
 class Response(NamedTuple):
-    """A response as a script sees it. `end` is `null`, `whole`, `cut`, `fault` or `toobig`; `count` the body's bytes."""
+    """A response as a script sees it. `end` is `null`, `whole`, `cut`, `fault` or `toobig`; `count` the body's
+    bytes."""
 
     kind: str
     status: int
@@ -134,8 +137,8 @@ Outcome = Union[Response, Loaded, NetworkError]
 
 
 class Policies:
-    """The content security policies of a document: the values of their headers, in order, and whether each is enforced or
-    only reports (CSP 3, section 2.2)."""
+    """The content security policies of a document: the values of their headers, in order, and whether each is enforced
+    or only reports (CSP 3, section 2.2)."""
 
     NAMES = {"content-security-policy": True, "content-security-policy-report-only": False}
 
@@ -143,7 +146,8 @@ class Policies:
         for given in (enforced, report_only):
             if isinstance(given, (str, bytes)):
                 raise TypeError("policies are a list of header values, not one text")
-        self.values: List[Tuple[Text, bool]] = [(value, True) for value in enforced] + [(value, False) for value in report_only]
+        self.values: List[Tuple[Text, bool]] = [
+            *((value, True) for value in enforced), *((value, False) for value in report_only)]
         self._compiled: Optional[Tuple[Tuple[Tuple[Text, bool], ...], _Thing]] = None
 
     def __getstate__(self) -> Dict[str, Any]:
@@ -155,9 +159,10 @@ class Policies:
 
     @classmethod
     def of_headers(cls, headers: Listed) -> "Policies":
-        """Those among an answer's headers, in a `Headers`, a mapping or pairs: the enforced ones first, in which order the
-        violations number them."""
-        named = [(name if isinstance(name, str) else _bytes(name).decode("latin-1"), value) for name, value in _pairs(headers)]
+        """Those among an answer's headers, in a `Headers`, a mapping or pairs: the enforced ones first, in which order
+        the violations number them."""
+        named = [(name if isinstance(name, str) else _bytes(name).decode("latin-1"), value)
+                 for name, value in _pairs(headers)]
         given = [(value, cls.NAMES[name.lower()]) for name, value in named if name.lower() in cls.NAMES]
         found = cls()
         found.values = sorted(given, key=lambda one: not one[1])
@@ -180,8 +185,9 @@ class Policies:
 
 
 class Client(_Thing):
-    """A document that fetches: its URL, that of the page at the top, its referrer policy, its policies (`Policies`, or the
-    values of headers that are enforced), and of URLs' origins the value of the Cookie header, as pairs or a mapping."""
+    """A document that fetches: its URL, that of the page at the top, its referrer policy, its policies (`Policies`, or
+    the values of headers that are enforced), and of URLs' origins the value of the Cookie header, as pairs or a
+    mapping."""
 
     def __init__(self, url: Text, top: Optional[Text] = None, policy: ReferrerPolicy = ReferrerPolicy.DEFAULT,
                  policies: Union[Policies, Iterable[Text]] = (), cookies: Listed = ()) -> None:
@@ -214,7 +220,8 @@ class Client(_Thing):
         self._cookies.append((_kept(url), _kept(value)))
 
 
-def _asked_again(kind: "Type[Union[Request, Load]]", words: Tuple[Any, Any], options: Dict[str, Any]) -> "Union[Request, Load]":
+def _asked_again(kind: "Type[Union[Request, Load]]", words: Tuple[Any, Any],
+                 options: Dict[str, Any]) -> "Union[Request, Load]":
     return kind(*words, **options)
 
 
@@ -230,7 +237,8 @@ class _Asked(_Thing):
     def __repr__(self) -> str:
         """Without headers and body, which a log need not have."""
         shown = {name: value for name, value in self._options.items() if name not in ("headers", "body")}
-        return f"{type(self).__name__}({', '.join([*map(repr, self._words), *(f'{name}={shown[name]!r}' for name in shown)])})"
+        options = [f"{name}={value!r}" for name, value in shown.items()]
+        return f"{type(self).__name__}({', '.join([*map(repr, self._words), *options])})"
 
     def _choose(self, choice: int, number: int, name: str, given: Any) -> None:
         _told(_lib.fiorrudda_request_choose(self._handle, choice, number))
@@ -254,7 +262,8 @@ class Request(_Asked):
         if mode != "cors":
             self._choose(_MODE, _number_of(mode, _MODES, "mode"), "mode", mode)
         if credentials != "same-origin":
-            self._choose(_CREDENTIAL, _number_of(credentials, _CREDENTIALS, "credentials mode"), "credentials", credentials)
+            self._choose(_CREDENTIAL, _number_of(credentials, _CREDENTIALS, "credentials mode"), "credentials",
+                         credentials)
         if redirect != "follow":
             self._choose(_REDIRECT, _number_of(redirect, _REDIRECTS, "redirect mode"), "redirect", redirect)
         if not _flag(referrer, "referrer"):
@@ -286,7 +295,8 @@ class Load(_Asked):
         super().__init__(lambda handle: _lib.fiorrudda_load(handle, number, *given))
         self._words, self._options = (kind, _kept(url)), {}
         if crossorigin is not None:
-            self._choose(_CROSSORIGIN, _number_of(crossorigin, _CROSSORIGINS, "crossorigin attribute"), "crossorigin", crossorigin)
+            self._choose(_CROSSORIGIN, _number_of(crossorigin, _CROSSORIGINS, "crossorigin attribute"), "crossorigin",
+                         crossorigin)
         if _flag(parser, "parser"):
             self._choose(_PARSER, 1, "parser", True)
         if referrer_policy != ReferrerPolicy.DEFAULT:
@@ -298,9 +308,9 @@ class Load(_Asked):
 
 
 class Fetch(_Thing):
-    """A whole fetch, an iterator of the acts that are to be done. Each is answered before the next is asked for: one that
-    was not answered comes again. `now` is in seconds, and `limit` is how many bytes a body may have. All fetches that
-    ask one book count from one moment.
+    """A whole fetch, an iterator of the acts that are to be done. Each is answered before the next is asked for: one
+    that was not answered comes again. `now` is in seconds, and `limit` is how many bytes a body may have. All fetches
+    that ask one book count from one moment.
 
     `NoRequest` where no request can be made of what is asked for."""
 
@@ -333,17 +343,17 @@ class Fetch(_Thing):
         return made[act]()
 
     def judge(self, book: Book) -> "List[Violation]":
-        """Goes on without the network: asks a book, and tells the document of violations, until something is to be sent or
-        read, or the fetch is over. It gives the violations on the way, report-only ones too. Threads that share the book
-        hold one common lock around each call of the book."""
+        """Goes on without the network: asks a book, and tells the document of violations, until something is to be sent
+        or read, or the fetch is over. It gives the violations on the way, report-only ones too. Threads that share the
+        book hold one common lock around each call of the book."""
         from .checks import _Found
         return _Found().of_fetch(self._handle, book._handle)[1]
 
     # ---- what came of an act
 
     def ask(self, book: Book) -> Optional[bool]:
-        """Asks a book what the act asks; its reply is a bool, or None where it was told something. Threads that share the book
-        hold one common lock around each call of the book."""
+        """Asks a book what the act asks; its reply is a bool, or None where it was told something. Threads that share
+        the book hold one common lock around each call of the book."""
         reply = ctypes.c_uint32(0)
         _told(_lib.fiorrudda_ask(self._handle, book._handle, reply))
         return {_YES: True, _DID_NOT: False}.get(reply.value)
@@ -369,7 +379,8 @@ class Fetch(_Thing):
         self._input(_FAILED)
 
     def feed(self, piece: Buffer) -> int:
-        """The next bytes of the answer came, in any buffer: how many of them were read. Those behind a head are fed again."""
+        """The next bytes of the answer came, in any buffer: how many of them were read. Those behind a head are fed
+        again."""
         if isinstance(piece, str):
             raise TypeError("an answer comes in bytes, not in text")
         used = ctypes.c_size_t(0)
@@ -391,8 +402,8 @@ class Fetch(_Thing):
 
     def _response(self) -> Response:
         end = _ENDS[_known(self._number(_END))]
-        return Response(_known(self._word(_WORD)), _known(self._number(_STATUS)), self._word(_URL), self._headers(), end,
-                        self._number(_COUNT), self._text(_TEXT_BODY))
+        return Response(_known(self._word(_WORD)), _known(self._number(_STATUS)), self._word(_URL), self._headers(),
+                        end, self._number(_COUNT), self._text(_TEXT_BODY))
 
     def _act(self) -> int:
         act = ctypes.c_uint32(0)
@@ -431,14 +442,14 @@ class Fetch(_Thing):
 
     def _asked(self) -> Ask:
         name = _BOOK_CALLS[_known(self._number(_CALL))]
-        return Ask(Call(name, _known(self._number(_TIME)), self._word(_HOST), self._number(_AGE), self._flag(_SUBDOMAINS),
-                        self._word(_KEY), self._word(_ORIGIN), self._word(_URL), self._flag(_INCLUDE),
-                        self._word(_METHOD), self._words(_NAME), self._words(_LEARNT)))
+        return Ask(Call(name, _known(self._number(_TIME)), self._word(_HOST), self._number(_AGE),
+                        self._flag(_SUBDOMAINS), self._word(_KEY), self._word(_ORIGIN), self._word(_URL),
+                        self._flag(_INCLUDE), self._word(_METHOD), self._words(_NAME), self._words(_LEARNT)))
 
     def _sends(self) -> Send:
         request = _written(_lib.fiorrudda_to_send, self._handle)
-        return Send(_known(self._word(_ORIGIN)), _known(request), _known(self._flag(_PREFLIGHT)), _known(self._word(_METHOD)),
-                    _known(self._word(_URL)), self._headers(), self._text(_TEXT_BODY))
+        return Send(_known(self._word(_ORIGIN)), _known(request), _known(self._flag(_PREFLIGHT)),
+                    _known(self._word(_METHOD)), _known(self._word(_URL)), self._headers(), self._text(_TEXT_BODY))
 
     def _tells(self) -> Tell:
         return Tell(_known(self._number(_POLICY)), _known(self._flag(_ENFORCED)), _known(self._word(_WORD)),

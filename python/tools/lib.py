@@ -2,10 +2,11 @@
 object lib/libfiorrudda.so.VERSION with its names libfiorrudda.so.1 and libfiorrudda.so, and lib/pkgconfig/fiorrudda.pc.
 All of the folder may be moved elsewhere.
 
-With --archive it takes a static library that was built, and makes the rest of it. Else the library is made of the static
-libraries of crates.txt: an object of each, with its exports. The crates below them are those that `rt ci` left proved
-here. Where one is missing or older than a source, they are proved first, by `rt ci` over a copy without their edits. The
-static libraries themselves are proved as they are built, side by side, over what an earlier `rt check` of them kept."""
+With --archive it takes a static library that was built, and makes the rest of it. Else the library is made of the
+static libraries of crates.txt: an object of each, with its exports. The crates below them are those that `rt ci` left
+proved here. Where one is missing or older than a source, they are proved first, by `rt ci` over a copy without their
+edits. The static libraries themselves are proved as they are built, side by side, over what an earlier `rt check` of
+them kept."""
 from __future__ import annotations
 
 import argparse

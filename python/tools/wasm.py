@@ -1,10 +1,10 @@
-"""Builds the engine for JavaScript into a folder, out/js/ where none is given: fiorrudda.wasm, the ES module around it with
-its TypeScript declarations, and package.json, so that `npm pack` there makes what npm installs.
+"""Builds the engine for JavaScript into a folder, out/js/ where none is given: fiorrudda.wasm, the ES module around it
+with its TypeScript declarations, and package.json, so that `npm pack` there makes what npm installs.
 
-It is made of the same static libraries as the C library of bin/lib: the LLVM module to which each was lowered when it was
-proved. The same clang compiles them as one for WebAssembly with a 64-bit memory, and they are linked with js/memory.c and
-js/numbers.c. Binaryen's wasm-opt then makes that a memory with 32-bit addresses, which all engines have, and in which
-they check no access; a memory of 4 GB is all that it can have."""
+It is made of the same static libraries as the C library of bin/lib: the LLVM module to which each was lowered when it
+was proved. The same clang compiles them as one for WebAssembly with a 64-bit memory, and they are linked with
+js/memory.c and js/numbers.c. Binaryen's wasm-opt then makes that a memory with 32-bit addresses, which all engines
+have, and in which they check no access; a memory of 4 GB is all that it can have."""
 from __future__ import annotations
 
 import argparse
@@ -111,7 +111,8 @@ def linked(kit: pathlib.Path, objects: Sequence[Word], made: pathlib.Path, room:
 
 
 def lowered(made: pathlib.Path) -> None:
-    """Makes the 64-bit memory one with 32-bit addresses. What the module was compiled with is said, since it does not."""
+    """Makes the 64-bit memory one with 32-bit addresses. What the module was compiled with is said, since it does
+    not."""
     optimiser = shutil.which("wasm-opt")
     if optimiser is None:
         built.fail("wasm-opt is not on the PATH: it comes with binaryen (Debian: apt install binaryen)")
@@ -139,14 +140,17 @@ def copy_package(into: pathlib.Path) -> None:
         shutil.copy(file, into)
     package = json.loads((into / "package.json").read_text())
     version = (TOP / "VERSION").read_text().strip()
-    (into / "package.json").write_text(json.dumps({"name": package["name"], "version": version, **package}, indent=2) + "\n")
+    (into / "package.json").write_text(json.dumps({"name": package["name"], "version": version, **package}, indent=2)
+                                       + "\n")
 
 
 def words() -> argparse.Namespace:
-    given = argparse.ArgumentParser(prog="bin/wasm", description=__doc__, formatter_class=argparse.RawDescriptionHelpFormatter)
+    given = argparse.ArgumentParser(prog="bin/wasm", description=__doc__,
+                                    formatter_class=argparse.RawDescriptionHelpFormatter)
     given.add_argument("folder", nargs="?", metavar="FOLDER", type=pathlib.Path, default=TOP / "out/js",
                        help="out/js/ of the repository")
-    given.add_argument("--jobs", metavar="N", type=int, default=os.cpu_count(), help="how many libraries are built side by side")
+    given.add_argument("--jobs", metavar="N", type=int, default=os.cpu_count(),
+                       help="how many libraries are built side by side")
     return given.parse_args()
 
 

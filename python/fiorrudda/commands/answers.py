@@ -66,7 +66,7 @@ class Head:
 
 
 class Answer:
-    """What came for one request. Of a scripted server `server` and `rule` are numbers, or None where there is none;
+    """What came for one request. `server` and `rule` are numbers of a scripted server, or None where there is none;
     over a network `link` says how the connection went: done, or a word of relay.py, and `is_ended` that all came that
     the server sent."""
 

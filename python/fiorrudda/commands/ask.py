@@ -7,11 +7,12 @@
 
 The first line says whether the page would read the answer. Lines that begin with < are what the server answered, lines
 that begin with # what is to be said of it; the others are the play, as `bin/fetchplay` prints it. Each request is sent
-once, over TCP, and over TLS where the URL says https. No cookie and no credential is sent that was not given. docs/why.md
-tells the rest.
+once, over TCP, and over TLS where the URL says https. No cookie and no credential is sent that was not given.
+docs/why.md tells the rest.
 
-The status is 0 where the page would read the answer, 1 where it would not, 2 where the words are wrong, 3 where there is
-no connection or the time limit comes, and 4 where there is no verdict. It needs the C library that `bin/lib` makes."""
+The status is 0 where the page would read the answer, 1 where it would not, 2 where the words are wrong, 3 where there
+is no connection or the time limit comes, and 4 where there is no verdict. It needs the C library that `bin/lib`
+makes."""
 from __future__ import annotations
 
 import sys

@@ -58,7 +58,8 @@ def resolution(word: str) -> tuple[tuple[str, int], tuple[str, int]]:
     found = re.fullmatch(r"\+?([^:]+):(\d{1,5}):(\[[^\]]+\]|[^:,]+)", word)
     if not found:
         raise argparse.ArgumentTypeError("write it as HOST:PORT:ADDRESS")
-    return connection("%s:%s:%s:%s" % (*found.groups(), found.group(2)))
+    host, port, address = found.groups()
+    return connection(f"{host}:{port}:{address}:{port}")
 
 
 def form_part(word: str) -> str:
@@ -155,7 +156,8 @@ def of_curl(parser: argparse.ArgumentParser) -> None:
 
 def of_asking(parser: argparse.ArgumentParser) -> None:
     given = parser.add_argument_group("how it is asked, and what is printed")
-    given.add_argument("--from-file", metavar="FILE", help="more URLs, one a line, but for lines that begin with #; - is standard input")
+    given.add_argument("--from-file", metavar="FILE",
+                       help="more URLs, one a line, but for lines that begin with #; - is standard input")
     given.add_argument("--jobs", metavar="N", type=jobs, default=1, help="URLs side by side (1)")
     given.add_argument("--timeout", "-m", "--max-time", metavar="S", type=streams.seconds, default=20,
                        help="seconds for all of it, for each URL (20)")

@@ -31,17 +31,7 @@ if TYPE_CHECKING:
 LIMIT = 1048576
 KNOWN_FOR = 31536000
 KNOWN_LINE = re.compile(rb"([0-9]+) ([01]) [0-9]+:(.+)")  # of a book's text (crates/book_text)
-PASSED_ON = ("%s: Content-Encoding says `%s`, which Chromium and Firefox do not decode: the page gets the bytes as they "
-             "came")
-READ_OVER = ("%s: %s: Chromium and Firefox read it all the same, and other programs may not: send all of it, as it was "
-             "compressed")
-NOT_ALL_CODINGS = ("%s: with `Content-Encoding: %s` Chromium gives the page the bytes as they came, and Firefox decodes "
-                   "them, as is done here: name the coding alone")
-ASKED_CODED = ("it was asked with `Accept-Encoding: %s` (--compressed), the codings that are decoded here, and the "
-               "play has identity, since the engine decodes none; a browser sends this server %s")
 UNCODED = "; it was asked for without a coding: --compressed asks as a browser does"
-VARIES = ("%s: what comes may depend on Accept-Encoding, of which a browser sends its own and this request said identity: "
-          "--compressed asks with `%s`")
 OWN_ORIGIN = "it was asked as from a page of its own origin; --from PAGE asks as another page would"
 
 
@@ -208,7 +198,7 @@ class Answered:
     def routes(self) -> list[list[str]]:
         """The address of each origin that was asked, as a scenario has them."""
         found = {exchange.origin: self.wire.place(exchange.origin) for exchange in self.wire.exchanges}
-        return [[origin, ("[%s]:%d" if ":" in host else "%s:%d") % (host, port)]
+        return [[origin, f"[{host}]:{port}" if ":" in host else f"{host}:{port}"]
                 for origin, (host, port) in found.items()]
 
     def notes(self) -> list[str]:
@@ -231,14 +221,17 @@ class Answered:
         value = stream.own.get("Content-Encoding") if stream.own else None
         is_other = stream.cut is not None and (stream.cut.is_other or stream.cut.is_broken)
         if value and not stream.codings and stream.is_opened:
-            yield PASSED_ON % (exchange.origin, value)
+            yield (f"{exchange.origin}: Content-Encoding says `{value}`, which Chromium and Firefox do not decode: the "
+                   "page gets the bytes as they came")
         elif stream.is_opened and not is_other:
-            came = "came as %s" + ("" if self.question.given.compressed else " all the same")
-            yield "%s: the body %s: it was decoded, as a browser does it%s" % (
-                exchange.origin, came % ", ".join(stream.codings), f"; {stream.cut}" if stream.cut else "")
-        yield from (READ_OVER % (exchange.origin, flaw) for flaw in stream.flaws)
+            came = ", ".join(stream.codings) + ("" if self.question.given.compressed else " all the same")
+            cut = f"; {stream.cut}" if stream.cut else ""
+            yield f"{exchange.origin}: the body came as {came}: it was decoded, as a browser does it{cut}"
+        yield from (f"{exchange.origin}: {flaw}: Chromium and Firefox read it all the same, and other programs may "
+                    "not: send all of it, as it was compressed" for flaw in stream.flaws)
         if stream.codings and stream.is_opened and len(stream.codings) < len(there(value).split(",")):
-            yield NOT_ALL_CODINGS % (exchange.origin, value)
+            yield (f"{exchange.origin}: with `Content-Encoding: {value}` Chromium gives the page the bytes as they "
+                   "came, and Firefox decodes them, as is done here: name the coding alone")
 
     @property
     def is_uncoded(self) -> bool:
@@ -256,8 +249,13 @@ class Answered:
     def of_asked_codings(self) -> str | None:
         """That a browser names other codings, where the answer may depend on that; or None."""
         if self.question.given.compressed:
-            return ASKED_CODED % (codings.accepted(), self.codings_of_browsers())
-        return VARIES % (self.varying[0], codings.accepted()) if self.varying else None
+            return (f"it was asked with `Accept-Encoding: {codings.accepted()}` (--compressed), the codings that are "
+                    "decoded here, and the play has identity, since the engine decodes none; a browser sends this "
+                    f"server {self.codings_of_browsers()}")
+        if not self.varying:
+            return None
+        return (f"{self.varying[0]}: what comes may depend on Accept-Encoding, of which a browser sends its own and "
+                f"this request said identity: --compressed asks with `{codings.accepted()}`")
 
     def codings_of_browsers(self) -> str:
         """Which codings a browser names to the server that was asked last."""
@@ -279,8 +277,7 @@ class Answered:
             return None
         if case.is_packed_twice:
             return (f"{case.request.origin}: the body is still gzip once it is decoded: the page gets it packed; "
-                    "compress it once, or let "
-                    f"Content-Encoding say `{case.coding}, gzip`")
+                    f"compress it once, or let Content-Encoding say `{case.coding}, gzip`")
         said = f"Content-Encoding says `{case.coding}`" if case.coding else "the answer has no Content-Encoding"
         return (f"{case.request.origin}: the body begins as gzip does, and {said}: the page gets it packed: send "
                 f"`Content-Encoding: gzip`{' in its place' if case.coding else ''}")
@@ -310,8 +307,8 @@ class Answered:
         if command.options["credentials"] == "omit":
             return "no cookie was sent: --credentials omit keeps them back"
         if not command.includes() and not fiorrudda.same_origin(page, own):
-            return "no cookie was sent: to another origin than that of the page they go with %s alone" % (
-                "--crossorigin use-credentials" if command.is_load else "--credentials include")
+            word = "--crossorigin use-credentials" if command.is_load else "--credentials include"
+            return f"no cookie was sent: to another origin than that of the page they go with {word} alone"
         if requests:
             return f"no cookie was sent: they are those of {own}, and no request went there"
         if not any(case.exchanges for case in self.told.cases):

@@ -98,7 +98,7 @@ def redirected(data: bytes, text: str, root: Node, passing: Relay) -> bytes:
     for pair in node.items:
         address = pair.items[1] if len(pair.items) == 2 else None
         if address is not None and address.kind == "string" and address.value in passing.own:
-            pieces += [text[end:address.start], '"%s"' % passing.own[address.value]]
+            pieces += [text[end:address.start], f'"{passing.own[address.value]}"']
             end = address.end
     return "".join([*pieces, text[end:]]).encode("utf-8")
 

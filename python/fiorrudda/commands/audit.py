@@ -2,12 +2,12 @@
 
     bin/audit SCENARIO PLAY
 
-It frames the two files and asks the proved `bin/playaudit`. Where that refuses the text, the place is shown: the line of
-the play, what was found there, and what would be right, as far as that can be told. One of the two may be `-`, which is
-standard input. docs/audit.md tells the rest.
+It frames the two files and asks the proved `bin/playaudit`. Where that refuses the text, the place is shown: the line
+of the play, what was found there, and what would be right, as far as that can be told. One of the two may be `-`, which
+is standard input. docs/audit.md tells the rest.
 
-The status is 0 where the text is a play, 1 where it is none, 2 where the words are wrong or a file cannot be read, and 3
-where a program fails. PLAYAUDIT and FETCHPLAY name other programs than bin/playaudit and bin/fetchplay."""
+The status is 0 where the text is a play, 1 where it is none, 2 where the words are wrong or a file cannot be read, and
+3 where a program fails. PLAYAUDIT and FETCHPLAY name other programs than bin/playaudit and bin/fetchplay."""
 from __future__ import annotations
 
 import argparse

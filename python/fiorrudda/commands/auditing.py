@@ -195,5 +195,5 @@ def right(scenario: bytes, text: Text) -> Text | None:
     return None
 
 
-CASES: dict[str, Any] = {"Scenario": of_scenario, "History": of_history, "Illegal": of_illegal, "Stranger": of_stranger, "Calls": of_calls,
-         "Text": of_text}
+CASES: dict[str, Any] = {"Scenario": of_scenario, "History": of_history, "Illegal": of_illegal, "Stranger": of_stranger,
+                         "Calls": of_calls, "Text": of_text}

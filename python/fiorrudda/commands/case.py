@@ -37,7 +37,6 @@ DIGEST = re.compile(r"(?:^|\s)(sha256|sha384|sha512)-([A-Za-z0-9+/_-]+={0,2})(?=
 CHUNK_LINE = re.compile(rb"([0-9a-fA-F]{1,16})[^\r\n]*\r\n")
 MOST_REDIRECTS = 20
 # As browsers tell it of a fetch.
-FAILS = "; reading it fails in Chromium (%s) and in Firefox (a TypeError)"
 REFUSES = "in Chromium net::ERR_RESPONSE_HEADERS_MULTIPLE_CONTENT_LENGTH, in Firefox a NetworkError; "
 GZIP = b"\x1f\x8b"
 ARCHIVES = ("gzip", "/octet-stream", "tgz")  # ends of the types of files that are to stay packed
@@ -427,8 +426,8 @@ class Case:
     @property
     def and_others(self) -> str:
         """That an origin which is allowed now may ask on."""
-        return "; %s" % ("pages of the other origins go on to get theirs" if self.varies
-                         else "one that trusts both sends the one that asks")
+        return ("; pages of the other origins go on to get theirs" if self.varies
+                else "; one that trusts both sends the one that asks")
 
     @property
     def the_answer(self) -> str:
@@ -587,7 +586,7 @@ class Case:
         return [one for one in self.questions() if self.is_violation(one)]
 
     def questions(self) -> Iterator[Violation]:
-        """Of each URL of the chain each policy, as a violation that there may be. No enforced one is asked of what
+        """A violation that there may be for each URL of the chain and each policy. No enforced one is asked of what
         another rule refuses before."""
         effective, hops = csp.EFFECTIVE[self.kind], self.hops + self.hops_ahead if self.is_asked_for else []
         for index, hop in enumerate(hops):
@@ -682,7 +681,7 @@ class Case:
     @property
     def policy(self) -> str:
         """Its number, and whether it only reports."""
-        return "policy %d%s" % (self.violated.policy, "" if self.violated.enforced else " (report-only)")
+        return f"policy {self.violated.policy}{'' if self.violated.enforced else ' (report-only)'}"
 
     @property
     def policy_url(self) -> str:
@@ -901,7 +900,8 @@ class Case:
     def is_broken_first(self) -> bool:
         """Whether a browser refuses for its lengths an answer that the engine refuses for what comes behind them."""
         is_refused = self.result.is_refused() and self.head is not None and self.is_direct
-        return is_refused and self.has_body and len(self.lengths) > 1 and there(self.explanation).way != "body/two-lengths"
+        return (is_refused and self.has_body and len(self.lengths) > 1
+                and there(self.explanation).way != "body/two-lengths")
 
     @cached_property
     def coded_fault(self) -> Cut | None:
@@ -935,20 +935,20 @@ class Case:
     @property
     def as_decoded(self) -> str:
         """What browsers make of a body that is not of its coding (docs/BROWSERS.md)."""
-        return "" if self.is_direct else FAILS % "net::ERR_CONTENT_DECODING_FAILED"
+        return "" if self.is_direct else fails_with("CONTENT_DECODING_FAILED")
 
     @property
     def as_cut(self) -> str:
         """What browsers make of a body that ends before its framing does (docs/BROWSERS.md), where that is known."""
         if self.is_cut_chunks:
-            return FAILS % "net::ERR_INCOMPLETE_CHUNKED_ENCODING"
+            return fails_with("INCOMPLETE_CHUNKED_ENCODING")
         if (self.wrong_length or 0) <= self.count or len(self.lengths) > 1:
             return ""
         if self.is_of_text:
             return "; Chromium and Firefox read it once the connection closes, and wait until then"
         if self.coded_fault or self.status // 100 != 2:
             return "; reading it fails in Chromium (net::ERR_CONTENT_LENGTH_MISMATCH), and Firefox takes what came"
-        return FAILS % "net::ERR_CONTENT_LENGTH_MISMATCH"
+        return fails_with("CONTENT_LENGTH_MISMATCH")
 
     @property
     def wrong_coding(self) -> str | None:
@@ -961,7 +961,8 @@ class Case:
         if there(self.cut).is_broken:
             return str(self.cut)
         if there(self.cut).outer:
-            return f"the body is {', '.join(there(self.cut).outer[::-1])} alone, and Content-Encoding says `{self.coding}`"
+            outer = ", ".join(there(self.cut).outer[::-1])
+            return f"the body is {outer} alone, and Content-Encoding says `{self.coding}`"
         return f"the body is not {there(self.cut).coding}, as Content-Encoding says"
 
     @property
@@ -1034,8 +1035,8 @@ class Case:
         """What is to be installed, where that is all that a coding lacks here."""
         from fiorrudda.commands import codings  # which bin/ask alone needs
         is_lacking = "br" in codings.lacking(self.coding)
-        return (", since there is neither node nor python3's module brotli: install Debian's package python3-brotli, or "
-                "brotli by pip") if is_lacking else ""
+        return (", since there is neither node nor python3's module brotli: install Debian's package python3-brotli, "
+                "or brotli by pip") if is_lacking else ""
 
     @property
     def or_install(self) -> str:
@@ -1082,8 +1083,8 @@ class Case:
 
     @property
     def lengths_told(self) -> str:
-        return "%s lengths, %s" % ("two" if len(self.lengths) == 2 else len(self.lengths),
-                                   " and ".join(word or "an empty one" for word in self.lengths))
+        count = "two" if len(self.lengths) == 2 else len(self.lengths)
+        return f"{count} lengths, {' and '.join(word or 'an empty one' for word in self.lengths)}"
 
     @property
     def as_refused(self) -> str:
@@ -1106,9 +1107,9 @@ class Case:
         """How many bytes came, and what Content-Length says, where that is another number; or an empty text."""
         if self.wrong_length is None:
             return ""
-        return ": %d byte%s came, and Content-Length says %d%s" % (
-            self.count, "" if self.count == 1 else "s", self.wrong_length,
-            ", which is the length of the text before it was compressed" if self.is_of_text else "")
+        of_text = ", which is the length of the text before it was compressed" if self.is_of_text else ""
+        return (f": {self.count} byte{'' if self.count == 1 else 's'} came, and Content-Length says "
+                f"{self.wrong_length}{of_text}")
 
     @property
     def is_of_text(self) -> bool:
@@ -1405,7 +1406,7 @@ class Case:
 
     def unexposed_names(self, head: Head | None) -> list[str]:
         """The headers that the script will miss once an answer is read: those of the answer, as far as it is known, and
-        those that the script reads. Of an answer that redirects none is read."""
+        those that the script reads. No header is read of an answer that redirects."""
         if self.command.is_load or head is not None and head.status in REDIRECTS:
             return []
         exposing = head.get(EXPOSE_HEADERS) if head else None
@@ -1438,6 +1439,11 @@ class Case:
     @staticmethod
     def whole(request: AnyRequest) -> str:
         return request.origin + request.target
+
+
+def fails_with(error: str) -> str:
+    """That browsers read the head, and fail at the body; of Chromium the error without its prefix."""
+    return f"; reading it fails in Chromium (net::ERR_{error}) and in Firefox (a TypeError)"
 
 
 def names_of(head: Head | None) -> list[str]:

@@ -38,7 +38,7 @@ def over(url: str, c: Case) -> str:
 
 
 def ask_for(url: str, c: Case) -> list[Edit]:
-    """The page asks for this URL itself. Of a chain that has changed the method by then, with that one."""
+    """The page asks for this URL itself. Where the chain has changed the method by then, it asks with that one."""
     found = [edits.request("url", over(url, c))]
     if c.chain and not c.command.is_load and c.method != guards.normalised(c.command.options["method"]):
         found.append(edits.request("method", c.method))

@@ -268,8 +268,8 @@ def unquoted(words: list[str]) -> list[tuple[str, str]]:
 
 @functools.lru_cache(64)
 def unquoted_of(words: tuple[str, ...]) -> list[tuple[str, str]]:
-    return [(word, "'%s'" % word.strip("'\"`")) for word in words
-            if QUOTED.fullmatch(word.strip("'\"`")) and not re.fullmatch("'[^'\"`]*'", word)]
+    return [(word, f"'{bare}'") for word, bare in ((word, word.strip("'\"`")) for word in words)
+            if QUOTED.fullmatch(bare) and not re.fullmatch("'[^'\"`]*'", word)]
 
 
 def near(words: list[str], asked: Asked) -> Near | None:
@@ -330,5 +330,6 @@ def with_host(scheme: str | None, host: str, port: str | None, path: str | None,
 
 
 # The likelier mistakes first.
-REWRITTEN: tuple[tuple[str, Callable[..., str | None]], ...] = (("colon", with_colon), ("path-star", without_star), ("path-slash", with_other_slash), ("path", with_folder),
-             ("port", with_port), ("scheme", with_scheme), ("host", with_host))
+REWRITTEN: tuple[tuple[str, Callable[..., str | None]], ...] = (
+    ("colon", with_colon), ("path-star", without_star), ("path-slash", with_other_slash), ("path", with_folder),
+    ("port", with_port), ("scheme", with_scheme), ("host", with_host))

@@ -73,7 +73,7 @@ def double_keys(root: Node) -> Iterator[tuple[int, str]]:
         seen = set()
         for key, _ in node.members:
             if key.value in seen:
-                yield key.start, 'the key "%s" stands twice in this object: the last one counts' % key.value
+                yield key.start, f'the key "{key.value}" stands twice in this object: the last one counts'
             seen.add(key.value)
 
 
@@ -100,7 +100,8 @@ def rules_without_use(scenario: Scenario) -> Iterator[tuple[int, str]]:
 
 
 def without_use(rules: list[Object], nodes: list[Node]) -> Iterator[tuple[int, str]]:
-    first: dict[tuple[str | None, str | None], int] = {}  # the number of the first rule with this method and this path; None is any
+    # the number of the first rule with this method and this path; None is any
+    first: dict[tuple[str | None, str | None], int] = {}
     for index, rule in enumerate(rules):
         method, path = rule.get("method"), rule.get("path")
         wider = [first[key] for key in {(method, path), (method, None), (None, path), (None, None)} if key in first]
@@ -124,11 +125,12 @@ def target_of(path: str) -> str:
 def no_use(path: str, method: str) -> str | None:
     """Why no request has this path or this method; None where one may."""
     if not path.startswith("/"):
-        return 'no request has the path "%s": write "%s"' % (path, target_of(path))
+        return f'no request has the path "{path}": write "{target_of(path)}"'
     if "#" in path:
-        return 'no request has a # in its path: write "%s"' % path.partition("#")[0]
+        before, _, _ = path.partition("#")
+        return f'no request has a # in its path: write "{before}"'
     if method != method.upper() and method.upper() in METHODS:
-        return 'no request has the method "%s": write "%s"' % (method, method.upper())
+        return f'no request has the method "{method}": write "{method.upper()}"'
     return None
 
 
@@ -226,5 +228,6 @@ def cookies_elsewhere(scenario: Scenario, play: Play) -> Iterator[tuple[int, str
     for index, (origin, _) in enumerate(scenario.data.get("cookies", [])):
         near = by_host.get(host_of(origin))
         if origin not in asked and near:
-            yield there(node).items[index].start, (f"this cookie is of {origin}, and the requests go to {near}: a scenario's "
-                                            "cookies have a scheme and a port")
+            yield there(node).items[index].start, (
+                f"this cookie is of {origin}, and the requests go to {near}: a scenario's cookies have a scheme and a "
+                "port")

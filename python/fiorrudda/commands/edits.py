@@ -277,7 +277,7 @@ def of_one_request(edit: Edit) -> str:
     if edit.get("gone"):
         return f"leave {of_gone(edit['gone'])} out of the request"
     if edit["set"] == "headers":
-        lines = listed("`%s: %s`" % tuple(pair) for pair in edit["value"]) if edit["value"] else "no header"
+        lines = listed(f"`{name}: {value}`" for name, value in edit["value"]) if edit["value"] else "no header"
         return "let the script set " + lines
     return str(REQUEST[edit["set"]] % edit["value"])
 

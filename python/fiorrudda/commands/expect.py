@@ -5,9 +5,9 @@
     bin/expect --strict TEST..      a test with a lint, or that leaves a fetch unnamed, is not met
     bin/expect --jobs 8 FOLDER      all files below a folder whose names end in expect.json, eight side by side
 
-Without a TEST one is read from standard input. It prints TAP: a line for each test, in order, and below one that fails what
-came otherwise, and why. The status is 0 where all are met, 1 where one is not, and 2 where the words are wrong. docs/why.md
-says what stands in a test."""
+Without a TEST one is read from standard input. It prints TAP: a line for each test, in order, and below one that fails
+what came otherwise, and why. The status is 0 where all are met, 1 where one is not, and 2 where the words are wrong.
+docs/why.md says what stands in a test."""
 from __future__ import annotations
 
 import argparse
@@ -34,7 +34,8 @@ def jobs(word: str) -> int:
 def words() -> argparse.Namespace:
     given = argparse.ArgumentParser(prog=SELF, description="plays tests: scenarios, each beside what it should come to",
                                     epilog="status: 0 all are met, 1 one is not, 2 wrong words")
-    given.add_argument("tests", nargs="*", metavar="TEST", help="a file, or a folder; standard input where none is named")
+    given.add_argument("tests", nargs="*", metavar="TEST",
+                       help="a file, or a folder; standard input where none is named")
     given.add_argument("--net", action="store_true", help="ask the real servers of the scenarios' routes")
     given.add_argument("--strict", action="store_true",
                        help="a test with a lint, or that leaves a fetch or load unnamed, is not met")
@@ -64,7 +65,8 @@ def outcomes(paths: Sequence[str | None], given: argparse.Namespace) -> Iterator
 
 
 def tap(number: int, one: Outcome) -> list[str]:
-    first = "%sok %d - %s" % ("" if one.is_met else "not ", number, one.name.replace("#", "\\#"))
+    name = one.name.replace("#", "\\#")
+    first = f"{'' if one.is_met else 'not '}ok {number} - {name}"
     return [first] + ["# " + line for line in one.lines + [line for line in one.warnings if line not in one.lines]]
 
 

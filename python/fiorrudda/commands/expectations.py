@@ -34,7 +34,8 @@ if TYPE_CHECKING:
 SCHEMA = os.path.join(ROOT, "schema", "expect.schema.json")
 WAYS = [way.name for way in TABLE]
 OTHERS = ("sent", "never sent", *policy_questions.KEYS)  # the keys of `expect` that name no fetch
-OF_OUTCOMES = ("result", "body", "hides", "sees", "upgraded", "violations", "why")  # keys that stand in a fetch or a load
+# keys that stand in a fetch or a load
+OF_OUTCOMES = ("result", "body", "hides", "sees", "upgraded", "violations", "why")
 MOST_UNNAMED = 20  # lines
 ONLY_STRICT = "all came as expected; --strict alone makes it `not ok`, for these warnings:"
 # As a play prints it behind the word violation, as far as a test says it.
@@ -84,8 +85,9 @@ def check(text: str, root: Node) -> None:
                                      'has the keys "scenario" and "expect"'))
     stray = next((key for key, _ in (root.members if root.kind == "object" else []) if KEY.fullmatch(key.value)), None)
     if stray is not None:
-        raise Wrong(refusals.Refusal(text, stray.start, "/" + stray.value, 'the key "%s" belongs in "expect": '
-                                     'write {"scenario": .., "expect": {"%s": ..}}' % (stray.value, stray.value)))
+        sentence = (f'the key "{stray.value}" belongs in "expect": write {{"scenario": .., "expect": '
+                    f'{{"{stray.value}": ..}}}}')
+        raise Wrong(refusals.Refusal(text, stray.start, "/" + stray.value, sentence))
     for key, sentence in wrong_keys(root.member("expect")):
         raise Wrong(refusals.Refusal(text, key.start, "/expect/" + key.value, sentence))
     if problems:
@@ -143,7 +145,7 @@ def of_outcome(place: str, value: Node) -> Iterator[Misfit]:
     if value.kind == "string":
         yield from of_items(value, place, result_problem)
     elif not value.members:
-        names = ", ".join('"%s"' % name for name in LOOKS)
+        names = ", ".join(f'"{name}"' for name in LOOKS)
         yield value, place, 'nothing is looked at here: write "result", or one of ' + names
     else:
         for name, problem in (("result", result_problem), ("why", way_problem), ("violations", violation_problem),
@@ -160,8 +162,8 @@ def way_problem(wanted: Any) -> str | None:
     if wanted in WAYS:
         return None
     meant = refusals.nearest(wanted, WAYS)
-    return 'no way has the name "%s": write %s' % (
-        wanted, '"%s"' % meant if meant else "one of those that bin/why --ways lists")
+    to_write = f'"{meant}"' if meant else "one of those that bin/why --ways lists"
+    return f'no way has the name "{wanted}": write {to_write}'
 
 
 def violation_problem(wanted: Any) -> str | None:
@@ -172,8 +174,8 @@ def violation_problem(wanted: Any) -> str | None:
     if name in DIRECTIVES:
         return None
     meant = refusals.nearest(name + "-elem", DIRECTIVES) or refusals.nearest(name, DIRECTIVES)
-    return 'no violation has the directive "%s": write %s' % (
-        name, '"%s"' % meant if meant else "one of " + ", ".join(DIRECTIVES))
+    to_write = f'"{meant}"' if meant else "one of " + ", ".join(DIRECTIVES)
+    return f'no violation has the directive "{name}": write {to_write}'
 
 
 def upgrade_problem(wanted: Any) -> str | None:
@@ -181,12 +183,13 @@ def upgrade_problem(wanted: Any) -> str | None:
     _, gap, word = wanted.partition(" ")
     if not gap or word in CAUSES:
         return None
-    return 'no upgrade has the cause "%s": behind the URL write one of %s' % (word, ", ".join(sorted(CAUSES)))
+    causes = ", ".join(sorted(CAUSES))
+    return f'no upgrade has the cause "{word}": behind the URL write one of {causes}'
 
 
 def scenario_of(node: Node, text: str, path: str | None) -> tuple[bytes, str]:
-    """The bytes of the scenario, and the name of its file. Of one that stands in the test the places are those of the
-    test."""
+    """The bytes of the scenario, and the name of its file. Where it stands in the test, the places are those of
+    the test."""
     if node.kind == "object":
         before = re.sub(r"[^\n]", " ", text[:node.start])
         return (before + text[node.start:node.end]).encode("utf-8"), path or "standard input"
@@ -246,7 +249,10 @@ def warnings(text: str, scenario: Scenario, told: Told, name: str, is_net: bool)
     """Lines, and of each whether it tells a fault: a note of what a play does not look at is none."""
     places = json_text.Places(text)
     found = lints.in_scenario(scenario)
-    rows = [("warning: %s:%d:%d: %s" % (name, *places.of(there(place)), one.told()), one.slip) for place, one in found]
+    rows = []
+    for place, one in found:
+        line, column = places.of(there(place))
+        rows.append((f"warning: {name}:{line}:{column}: {one.told()}", one.slip))
     rows += [("warning: " + one.told(), one.slip) for one in (lints.of_answers(told) if is_net else [])]
     notes_told = {one.slip for _, one in found if one.lint.is_note}
     return [(line, slip not in notes_told) for line, slip in lints.told_once(rows)]
@@ -287,8 +293,8 @@ def unnamed(expect: Object, told: Told) -> Iterator[str]:
 
 
 def hint_of(key: str, case: Case) -> str:
-    """What a test says to want what came. Of what policies report alone the result says nothing of them: the violations
-    do, or that there is to be none."""
+    """What a test says to want what came. The result says nothing of policies that only report: the violations do, or
+    that there is to be none."""
     came = as_it_came(case)
     reported = [one for one in findings.violations(case) if one["disposition"] == "report"]
     if not reported or case.is_unloaded:
@@ -299,8 +305,8 @@ def hint_of(key: str, case: Case) -> str:
 
 
 def as_it_came(case: Case) -> Any:
-    """What a test says to want what came. Of a URL that this engine never loads the result alone would hold under
-    every policy."""
+    """What a test says to want what came. The result alone would hold under every policy for a URL that this engine
+    never loads."""
     if not case.is_unloaded:
         return next(iter(result_words(case)), case.result.short())
     return {"result": word_of(case), "violations": short_violations(findings.violations(case))}
@@ -319,7 +325,7 @@ def word_of(case: Case) -> str:
 
 def short_violations(violations: list[Object]) -> list[str]:
     """Each once, as a test says them."""
-    return list(dict.fromkeys("%(policy)d %(disposition)s %(directive)s" % one for one in violations))
+    return list(dict.fromkeys(f"{one['policy']} {one['disposition']} {one['directive']}" for one in violations))
 
 
 def unknown(expect: Object, scenario: str) -> Iterator[str]:
@@ -370,7 +376,7 @@ def is_reported_alone(case: Case, wanted: Object) -> bool:
 
 
 def under_any_policy(key: str, case: Case, wanted: Any, are_many: bool) -> Iterator[str]:
-    """Of a URL that this engine never loads that a test wants of it what comes whatever the page's policies say."""
+    """That a test wants of a URL, which this engine never loads, what comes whatever the page's policies say."""
     is_asked = case.is_unloaded and not case.is_mixed_socket and case.policies and "violations" not in wanted
     result = wanted.get("result")
     if is_asked and (result is None or all(is_met(result, as_if(case, word)) for word in ("refused", "none"))):
@@ -477,8 +483,8 @@ def of_fetch(key: str, wanted: Any, cases: Cases, passing: list[Passing], sent: 
         has = ", ".join(name for _, name in list(cases)[:20]) or "none"
         number = key.rpartition(" ")[2]
         is_other = any(name.endswith(" " + number) for _, name in cases)
-        yield "%s: there is none; the play has %s%s" % (
-            key, has, ": fetches and loads are counted together" if is_other else "")
+        together = ": fetches and loads are counted together" if is_other else ""
+        yield f"{key}: there is none; the play has {has}{together}"
         return
     wanted = as_object(wanted)
     found = list(of_case(case, wanted))
@@ -507,7 +513,7 @@ def change_of_test(key: str, case: Case, wanted: Any) -> Iterator[str]:
     is_known = word in (word_of(case), "no-verdict")  # what is to refuse it may not be there yet
     more = {"violations": wanted.get("violations", short_violations(own))} if is_known else {}
     meant = json.dumps({"result": word, **more})
-    yield 'change: write "%s": %s in the test, since this engine does not load it' % (key, meant)
+    yield f'change: write "{key}": {meant} in the test, since this engine does not load it'
 
 
 def keep_wanted(case: Case, wanted: Any, sent: list[Any]) -> None:
@@ -527,7 +533,8 @@ def of_case(case: Case, wanted: Any) -> Iterator[tuple[str, str]]:
         more = "; not compared, since it follows: " + edits.listed(following) if following else ""
         yield "result", f"expected {wanted['result']}; it came to {came_to(case)}{more}"
     elif wanted_refusals.untested(case, wanted):
-        yield "result", f"expected {wanted['result']}; it came to {case.result.short()}, but {wanted_refusals.untested(case, wanted)}"
+        untested = wanted_refusals.untested(case, wanted)
+        yield "result", f"expected {wanted['result']}; it came to {case.result.short()}, but {untested}"
     told = {key: list(LOOKS[key](case, wanted[key])) for key in keys}
     if told.get("upgraded"):  # so it was sent elsewhere
         told.pop("sent", None)
@@ -544,7 +551,7 @@ def came_to(case: Case) -> str:
 
 
 def is_met(wanted: Any, result: Result) -> bool:
-    """Of an answer that is let in, and does not come whole, neither `read` nor `not read` holds."""
+    """Neither `read` nor `not read` holds for an answer that is let in, and does not come whole."""
     is_negated, rest = results.negated(wanted)
     if is_negated and rest == "read":
         return not results.is_let_in(result)
@@ -590,9 +597,9 @@ def look_at_body(case: Case, wanted: Any) -> Iterator[str]:
 def look_at_requests(case: Case, wanted: Any) -> Iterator[str]:
     requests = [request for request, _ in case.exchanges]
     if not (len(requests) == len(wanted) and all(map(wanted_requests.is_met, wanted, requests))):
-        yield "expected that it sends %s; it sent %s" % (
-            ", ".join(map(wanted_requests.told, wanted)) or "nothing",
-            ", ".join(wanted_requests.named(request, wanted) for request in requests) or "nothing")
+        expected = ", ".join(map(wanted_requests.told, wanted)) or "nothing"
+        sent = ", ".join(wanted_requests.named(request, wanted) for request in requests) or "nothing"
+        yield f"expected that it sends {expected}; it sent {sent}"
 
 
 def look_at_violations(case: Case, wanted: Any) -> Iterator[str]:
@@ -621,12 +628,12 @@ def look_at_upgrades(case: Case, wanted: Any) -> Iterator[str]:
         return
     told = ", ".join(f"{one['to']} ({CAUSES[one['cause']]})" for one in came)
     first = "expected an upgrade to " + ", ".join(wanted) if wanted else "expected no upgrade"
-    yield "%s; %s" % (first, "it was upgraded to " + told if came else "there was none" + why_plain(case, wanted))
+    yield f"{first}; " + (f"it was upgraded to {told}" if came else f"there was none{why_plain(case, wanted)}")
     yield from (note for note in case.notes if note.startswith(notes.IN_A_BROWSER))
 
 
 def why_plain(case: Case, wanted: Any) -> str:
-    """Why the last URL was not upgraded. Of HSTS nothing is said where another cause is expected."""
+    """Why the last URL was not upgraded. It says nothing of HSTS where another cause is expected."""
     is_of_hsts = all(one.partition(" ")[2] in ("", "hsts") for one in wanted)
     own = known_hosts.why_unknown(case.hops[-1].asked) if case.hops and is_of_hsts else ""
     why = case.stays_plain or own

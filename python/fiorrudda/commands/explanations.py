@@ -69,30 +69,33 @@ CORS_CHECK = [
         "let one of these URLs answer itself; look for a login that waits for a cookie which is never sent, or http "
         "and https that lead to each other", REDIRECTS),
     Way("cors/no-rule", "7 12", lambda c: c.has_no_rule,
-        "the scenario's server {c.request.origin} has no rule for {c.request.method} {c.request.target}, so the answer is "
-        "an empty 404 without CORS headers; {c.nearest_rule}", "",
+        "the scenario's server {c.request.origin} has no rule for {c.request.method} {c.request.target}, so the answer "
+        "is an empty 404 without CORS headers; {c.nearest_rule}", "",
         "add a rule for this request: {change}{c.or_path}", CORS, changes.no_rule),
     Way("cors/tls-port-asked-in-plain", "7 12",
         lambda c: (c.is_net and not c.is_direct and c.status == 400 and c.request.origin.startswith("https:")
                    and c.allowed_origin is None),
-        "the answer is 400, as a TLS port gives it when it is asked in plain; `net` speaks no TLS, and {c.route} was asked "
-        "in plain", "", "let the route lead to the server's plain port, or to a side process that adds TLS",
+        "the answer is 400, as a TLS port gives it when it is asked in plain; `net` speaks no TLS, and {c.route} was "
+        "asked in plain", "", "let the route lead to the server's plain port, or to a side process that adds TLS",
         "../why.md#your-own-server"),
     Way("cors/origin-null", "7 12", lambda c: c.origin == "null",
         "the request says `Origin: null`, since a redirect led it from another origin to this one, and the answer "
-        "{c.allows}", ALLOW_ORIGIN, "{change}; or redirect within one origin", "redirects.md#origin-null", changes.origin_null),
+        "{c.allows}", ALLOW_ORIGIN, "{change}; or redirect within one origin", "redirects.md#origin-null",
+        changes.origin_null),
     Way("cors/preflight-redirect", "7", lambda c: c.is_redirect,
         "the preflight is answered by a redirect ({c.status}) to {c.whereto}{c.next_differs}, and no redirect of a "
         "preflight is followed, whatever headers it has{c.no_cookie}", "Location",
         "{c.before_login}{change}{c.look_for}", PREFLIGHT, changes.next_url_or_cors),
     Way("cors/preflight-login", "7", lambda c: c.allowed_origin is None and c.status in (401, 403, 407),
-        "the answer to the preflight is {c.status}, without CORS headers: a preflight never carries a cookie or Authorization",
+        "the answer to the preflight is {c.status}, without CORS headers: a preflight never carries a cookie or "
+        "Authorization",
         ALLOW_ORIGIN, "let OPTIONS pass before the login is asked for: {change}", PREFLIGHT, changes.cors),
     Way("cors/preflight-not-handled", "7", lambda c: c.allowed_origin is None and c.status in (404, 405, 501),
         "the answer to the preflight is {c.status}, without CORS headers: the server does not answer OPTIONS at "
         "{c.request.target}", ALLOW_ORIGIN, "{change}", PREFLIGHT, changes.cors),
     Way("cors/preflight-status", "7", lambda c: c.allowed_origin is None and not 200 <= c.status <= 299,
-        "the answer to the preflight is {c.status}, which is none of 200 to 299, and has no Access-Control-Allow-Origin",
+        "the answer to the preflight is {c.status}, which is none of 200 to 299, and has no "
+        "Access-Control-Allow-Origin",
         ALLOW_ORIGIN, "{change}; then look why it is {c.status}", PREFLIGHT, changes.cors),
     Way("cors/absent-on-error", "12", lambda c: c.allowed_origin is None and c.status >= 400,
         "the answer is {c.status}, and has no Access-Control-Allow-Origin", ALLOW_ORIGIN,
@@ -112,7 +115,8 @@ CORS_CHECK = [
         "{change}{c.and_vary}", CORS, changes.cors),
     Way("cors/written-otherwise", "7 12", lambda c: c.allowed_origin != c.origin and c.is_alike(),
         "`{c.allowed_origin}` is not `{c.origin}`, byte for byte, as the request says its origin", ALLOW_ORIGIN,
-        "{change}; an origin is scheme, ://, host, and the port where it is not the default: no slash, no blank, no quotes",
+        "{change}; an origin is scheme, ://, host, and the port where it is not the default: no slash, no blank, no "
+        "quotes",
         CORS, changes.cors),
     Way("cors/other-origin", "7 12", lambda c: c.allowed_origin != c.origin,
         "{c.the_answer} allows `{c.allowed_origin}`, and the request is of `{c.origin}`", ALLOW_ORIGIN,
@@ -137,7 +141,8 @@ PREFLIGHTS = [
         "the answer to the preflight is {c.status}: the server does not answer OPTIONS at {c.request.target}", "",
         "{change}", PREFLIGHT, changes.cors),
     Way("preflight/status", "8", always,
-        "the answer to the preflight is {c.status}, which is none of 200 to 299", "", "{change}", PREFLIGHT, changes.cors),
+        "the answer to the preflight is {c.status}, which is none of 200 to 299", "", "{change}", PREFLIGHT,
+        changes.cors),
     Way("preflight/list", "9", lambda c: c.bad_item is not None,
         "`{c.list_item}` in {c.list_name} is no token", "{c.list_name}",
         "{change}: commas between the items, and no quotes, colons or blanks in one", PREFLIGHT, changes.cors),
@@ -158,11 +163,11 @@ PREFLIGHTS = [
         "`*` in Access-Control-Allow-Headers does not cover Authorization", ALLOW_HEADERS,
         "list it by its name: {change}", PREFLIGHT, changes.cors),
     Way("preflight/header-of-answers", "11", lambda c: c.result.detail in c.stray_names,
-        "the script sets {c.result.detail}, which is a header of answers and does nothing in a request, but that a "
+        "the script sets {c.result.detail}, which is a header of answers and does nothing in a request, except that a "
         "preflight asks for it", ALLOW_HEADERS, "{change}", PREFLIGHT, changes.cors),
     Way("preflight/user-agent", "11", lambda c: c.result.detail == "user-agent",
-        "the script sets User-Agent, as a command line of curl does, and the answer to the preflight does not list it; browsers "
-        "send their own", ALLOW_HEADERS, "{change}", PREFLIGHT, changes.without_user_agent),
+        "the script sets User-Agent, as a command line of curl does, and the answer to the preflight does not list it; "
+        "browsers send their own", ALLOW_HEADERS, "{change}", PREFLIGHT, changes.without_user_agent),
     Way("preflight/header-absent", "11", lambda c: not c.names,
         "the answer to the preflight has no Access-Control-Allow-Headers, and the request has {c.result.detail}",
         ALLOW_HEADERS, "{change}", PREFLIGHT, changes.cors),
@@ -177,7 +182,8 @@ PREFLIGHTS = [
 # of URLs that a browser loads by itself, or by a WebSocket
 UNLOADED = [
     Way("no-verdict/data", "1", lambda c: c.is_unloaded and c.scheme == "data",
-        "no verdict: this engine loads no `data:` URL; a browser would, {c.policy_verdict}", "", "{c.unloaded_change}", FETCH),
+        "no verdict: this engine loads no `data:` URL; a browser would, {c.policy_verdict}", "", "{c.unloaded_change}",
+        FETCH),
     Way("no-verdict/blob", "1", lambda c: c.is_unloaded and c.scheme == "blob",
         "no verdict: this engine loads no `blob:` URL; a browser would, where a script of the page's origin made it, "
         "{c.policy_verdict}", "", "{c.unloaded_change}", FETCH),
@@ -191,16 +197,16 @@ UNLOADED = [
 
 POLICIES = [
     Way("policy/quotes", "4", lambda c: c.unquoted_words != [],
-        "{c.policy} has `{c.directive_text}`, where `{c.unquoted_word}` lacks its quotes (`{c.unquoted_written}`), and so is "
-        "no keyword, nonce or hash", "", "{change}{c.then_strict}", "csp.md#words-section-231-source-expression",
+        "{c.policy} has `{c.directive_text}`, where `{c.unquoted_word}` lacks its quotes (`{c.unquoted_written}`), and "
+        "so is no keyword, nonce or hash", "", "{change}{c.then_strict}", "csp.md#words-section-231-source-expression",
         changes.put_quotes),
     Way("policy/before-upgrade", "4", lambda c: c.is_before_upgrade,
         "{c.policy} has `{c.directive_text}`, and no word of it matches {c.policy_url}: a policy that only reports is "
         "asked before the URL becomes https, and one that is enforced behind that", "", "{change}",
         "csp.md#when-a-fetch-asks-them-section-41-integration-with-fetch", changes.before_upgrade),
     Way("policy/data-script", "4", lambda c: c.kind == "script" and scheme_of(c.policy_url) == "data",
-        "{c.policy} has `{c.directive_text}`, and a word that lets this `data:` URL pass lets every script pass that finds its way "
-        "into the page", "", "{change}; or serve the script as a file", POLICY, changes.nonce),
+        "{c.policy} has `{c.directive_text}`, and a word that lets this `data:` URL pass lets every script pass that "
+        "finds its way into the page", "", "{change}; or serve the script as a file", POLICY, changes.nonce),
     Way("policy/strict-dynamic", "4",
         lambda c: c.kind == "script" and "'strict-dynamic'" in [word.lower() for word in c.directive[1]],
         "{c.policy} has `{c.directive_text}`: with 'strict-dynamic' a script that a parser inserted passes by its "
@@ -216,18 +222,19 @@ POLICIES = [
         "{c.policy} has `{c.directive_text}`, which lets nothing pass", "", "{change}", POLICY,
         changes.add_source_or_nonce),
     Way("policy/loopback-address", "4", lambda c: c.is_policy_loopback,
-        "{c.policy} has `{c.directive_text}`, where browsers match `127.0.0.1`, as CSP 3 has it, and this engine matches "
-        "no IP address", "", "a browser needs no change; for a verdict here {change}", WORDS, changes.add_source),
+        "{c.policy} has `{c.directive_text}`, where browsers match `127.0.0.1`, as CSP 3 has it, and this engine "
+        "matches no IP address", "", "a browser needs no change; for a verdict here {change}", WORDS,
+        changes.add_source),
     Way("policy/ip-address", "4", lambda c: c.is_policy_address,
-        "{c.policy} has `{c.directive_text}`, and the host of {c.policy_url} is an IP address, which no word with a host "
-        "matches", "",
+        "{c.policy} has `{c.directive_text}`, and the host of {c.policy_url} is an IP address, which no word with a "
+        "host matches", "",
         "{change}; or give the server a name", WORDS, changes.add_source_or_nonce),
     Way("policy/colon", "4", lambda c: c.near_fault == "colon",
-        "{c.policy} has `{c.directive_text}`, where `{c.near_text}` lacks its colon (`{c.near_written}`), and so is the "
-        "name of a host", "", "{change}", WORDS, changes.rewrite),
+        "{c.policy} has `{c.directive_text}`, where `{c.near_text}` lacks its colon (`{c.near_written}`), and so is "
+        "the name of a host", "", "{change}", WORDS, changes.rewrite),
     Way("policy/path-star", "4", lambda c: c.near_fault == "path-star",
-        "{c.policy} has `{c.near_text}`, whose path is no pattern: `*` stands for itself there, and a path that ends in a "
-        "slash for all below it", "", "{change}", WORDS, changes.rewrite),
+        "{c.policy} has `{c.near_text}`, whose path is no pattern: `*` stands for itself there, and a path that ends "
+        "in a slash for all below it", "", "{change}", WORDS, changes.rewrite),
     Way("policy/path-slash", "4", lambda c: c.near_fault == "path-slash",
         "{c.policy} has `{c.near_text}`, and not `{c.near_written}`, as {c.policy_url} wants it: a path matches itself "
         "alone, and one that ends in a slash what is below it", "", "{change}", WORDS, changes.rewrite),
@@ -235,18 +242,19 @@ POLICIES = [
         "{c.policy} has `{c.near_text}`, and the path of {c.policy_url} is another: scheme and host match, and capital "
         "letters of a path differ from small ones", "", "{change}", WORDS, changes.rewrite),
     Way("policy/port", "4", lambda c: c.near_fault == "port",
-        "{c.policy} has `{c.near_text}`, and {c.policy_url} has another port: a word without one stands for the default "
-        "one", "",
+        "{c.policy} has `{c.near_text}`, and {c.policy_url} has another port: a word without one stands for the "
+        "default one", "",
         "{change}", WORDS, changes.rewrite),
     Way("policy/scheme", "4", lambda c: c.near_fault == "scheme",
-        "{c.policy} has `{c.near_text}`, and the scheme of {c.policy_url} is another: http matches https too, and https "
-        "itself alone",
+        "{c.policy} has `{c.near_text}`, and the scheme of {c.policy_url} is another: http matches https too, and "
+        "https itself alone",
         "", "{change}", WORDS, changes.secure_or_rewrite),
     Way("policy/host", "4", lambda c: c.near_fault == "host",
         "{c.policy} has `{c.near_text}`, and not `{c.near_written}`, as {c.policy_url} wants it: a host matches itself "
         "alone, and one behind `*.` what is below it", "", "{change}", WORDS, changes.rewrite),
     Way("policy/nonce-absent", "4", lambda c: c.policy_nonces != [] and c.nonce == "",
-        "{c.policy} has `{c.directive_text}`, and the element has no nonce", "", "{change}", POLICY, changes.nonce_or_source),
+        "{c.policy} has `{c.directive_text}`, and the element has no nonce", "", "{change}", POLICY,
+        changes.nonce_or_source),
     Way("policy/after-redirect", "4", lambda c: c.violated.redirected,
         "{c.policy} has `{c.directive_text}`, and no word of it matches {c.policy_url}, where the redirect leads", "",
         "{change}; the path of a word does not count after a redirect", POLICY, changes.add_source_or_nonce),
@@ -257,16 +265,17 @@ POLICIES = [
 
 BEFORE_SENDING = UNLOADED + [
     Way("scheme/host-taken-for-it", "1", lambda c: re.match(r"\s*[A-Za-z0-9.-]+:\d+", c.command.url) is not None,
-        "`{c.command.url}` is read as a URL of the scheme `{c.scheme}`: without // the host stands where a scheme does", "",
-        "write the scheme: {change}", FETCH, changes.with_scheme),
-    Way("scheme/other", "1", always, "the URL's scheme is `{c.scheme}`, and neither http nor https: a browser refuses it too", "",
+        "`{c.command.url}` is read as a URL of the scheme `{c.scheme}`: without // the host stands where a scheme does",
+        "", "write the scheme: {change}", FETCH, changes.with_scheme),
+    Way("scheme/other", "1", always,
+        "the URL's scheme is `{c.scheme}`, and neither http nor https: a browser refuses it too", "",
         "ask for an http or https URL", FETCH),
     Way("port/bad", "2", always, "browsers block the port {c.port} of {c.url}{c.where}", "",
         "let the server listen at another port{c.over_https}, such as 443, 8080 or 8443: {change}",
         "mixed-content.md#bad-ports-fetch-section-29-port-blocking", changes.other_port),
     Way("mixed/ip-address", "3", lambda c: c.is_upgradeable_address,
-        "the page is secure, and {c.url}{c.where} is not: images, audio and video become https by themselves, but not where "
-        "the host is an IP address", "",
+        "the page is secure, and {c.url}{c.where} is not: images, audio and video become https by themselves, but not "
+        "where the host is an IP address", "",
         "{change}, with a certificate that names the address, since HSTS never applies to one; or give the server a "
         "name, let it answer over https under that name, and ask by it", MIXED, changes.ask_secure_or_upgrade),
     Way("mixed/top", "3", lambda c: c.is_embedded and not c.page_origin.startswith("https:"),
@@ -294,7 +303,8 @@ ANSWERS = [
     Way("corp/same-origin", "13", lambda c: c.get("Cross-Origin-Resource-Policy") == "same-origin",
         "Cross-Origin-Resource-Policy is `same-origin`, and {c.request.origin} is another origin than {c.page_origin}",
         "Cross-Origin-Resource-Policy", "{change}", "cors.md#cross-origin-resource-policy", changes.resource_policy),
-    Way("corp/same-site-scheme", "13", lambda c: c.page_origin.startswith("http:") and c.request.origin.startswith("https:")
+    Way("corp/same-site-scheme", "13",
+        lambda c: c.page_origin.startswith("http:") and c.request.origin.startswith("https:")
         and c.is_same_site(),
         "Cross-Origin-Resource-Policy is `same-site`, and the page is not of https while {c.request.origin} is",
         "Cross-Origin-Resource-Policy", "{change}", "cors.md#cross-origin-resource-policy",
@@ -303,8 +313,8 @@ ANSWERS = [
         "Cross-Origin-Resource-Policy is `same-site`, and {c.request.origin} is of another site than {c.page_origin}",
         "Cross-Origin-Resource-Policy", "{change}", "cors.md#cross-origin-resource-policy", changes.resource_policy),
     Way("redirect/mode-error", "14", always,
-        "the answer redirects ({c.status}) to {c.whereto}, and the redirect mode is error", "Location", "{change}", "redirects.md",
-        changes.follow_or_next_url),
+        "the answer redirects ({c.status}) to {c.whereto}, and the redirect mode is error", "Location", "{change}",
+        "redirects.md", changes.follow_or_next_url),
     Way("redirect/two-locations", "15", lambda c: len(c.head.values("Location")) > 1,
         "the answer has Location twice", "Location", "{change}, once: not by the program and by the proxy", REDIRECTS,
         changes.location(changes.first_location)),
@@ -313,8 +323,8 @@ ANSWERS = [
     Way("redirect/no-url", "15", always, "the Location `{c.location}` gives no URL", "Location",
         "send a URL, whole or relative, in UTF-8", REDIRECTS),
     Way("redirect/scheme", "16", always,
-        "the redirect leads to `{c.location}`, which is neither http nor https: browsers do not follow it either", "Location",
-        "lead to an http or https URL: others are not followed", REDIRECTS),
+        "the redirect leads to `{c.location}`, which is neither http nor https: browsers do not follow it either",
+        "Location", "lead to an http or https URL: others are not followed", REDIRECTS),
     Way("redirect/loop", "17", lambda c: len({c.whole(request) for request, _ in c.chain}) < len(c.chain),
         "twenty redirects were followed, and the chain comes back to where it was", "Location",
         "look for a loop: a login that waits for a cookie which is never sent, http and https that lead to each other",
@@ -328,8 +338,8 @@ ANSWERS = [
         "{c.policy} has `{c.directive_text}`, and no word of it matches the URL of the response, {c.policy_url}", "",
         "leave out the port 80 of the word, since the URL became https: {change}", "final-checks.md#1-the-policies",
         changes.without_port),
-    Way("type/script", "20", always, "the type of the answer is `{c.essence}`, which no script may have", "Content-Type",
-        "{change}{c.why_status}", TYPES, changes.header("Content-Type", "text/javascript")),
+    Way("type/script", "20", always, "the type of the answer is `{c.essence}`, which no script may have",
+        "Content-Type", "{change}{c.why_status}", TYPES, changes.header("Content-Type", "text/javascript")),
     Way("type/nosniff-absent", "21", lambda c: not c.essence,
         "the answer says `nosniff`, and has no type", "Content-Type", "{change}{c.why_status}", TYPES,
         changes.header("Content-Type", lambda c: c.right_type)),
@@ -341,8 +351,8 @@ ANSWERS = [
         "the response is opaque, since it is of another origin and the mode is no-cors: there is no body to match", "",
         "{change}", BODY, changes.in_cors),
     Way("integrity/opaqueredirect", "22", lambda c: c.is_redirect and c.command.options["redirect"] == "manual",
-        "the answer redirects ({c.status}), and the redirect mode is manual: there is no body to match", "Location", "{change}",
-        BODY, changes.follow),
+        "the answer redirects ({c.status}), and the redirect mode is manual: there is no body to match", "Location",
+        "{change}", BODY, changes.follow),
     Way("integrity/no-body", "22", lambda c: not c.has_body,
         "an answer with the status {c.status} to {c.request.method} has no body that could match", "",
         "{change}", BODY, changes.body_or_no_integrity),
@@ -354,10 +364,11 @@ ANSWERS = [
         "../why.md#binask"),
     Way("body/two-lengths", "22 23 s", lambda c: c.is_short and len(c.lengths) > 1,
         "the answer has {c.lengths_told}: both browsers make that a network error "
-        "({c.as_refused}docs/BROWSERS.md#bytes-on-the-wire)", "Content-Length", "let one of them alone stand there, the right one",
-        "answers.md#the-body", changes.right_length),
+        "({c.as_refused}docs/BROWSERS.md#bytes-on-the-wire)", "Content-Length",
+        "let one of them alone stand there, the right one", "answers.md#the-body", changes.right_length),
     Way("integrity/incomplete", "22", lambda c: c.is_cut,
-        "the body did not come whole", "Content-Length", "send all of it, and its right length", BODY, changes.right_length),
+        "the body did not come whole", "Content-Length", "send all of it, and its right length", BODY,
+        changes.right_length),
     Way("integrity/toobig", "22", lambda c: c.is_too_big,
         "the body is longer than the {c.body_limit} bytes that are read here, so no digest was made", "",
         "set `body_limit`, in format 2; a browser has no such limit", "answers.md#the-body", changes.greater_limit),
@@ -365,7 +376,8 @@ ANSWERS = [
                                                  c.digests.get(c.strongest, [])),
         "the {c.strongest} of the integrity text has lost its padding", "", "{change}",
         "integrity.md", changes.integrity),
-    Way("integrity/stale-strongest", "22", lambda c: any(c.digest(name) in values for name, values in c.digests.items()),
+    Way("integrity/stale-strongest", "22",
+        lambda c: any(c.digest(name) in values for name, values in c.digests.items()),
         "a weaker digest of the integrity text matches, and the {c.strongest} does not: the strongest alone counts", "",
         "{change}", "integrity.md", changes.integrity),
     Way("integrity/mismatch", "22", always,
@@ -388,7 +400,8 @@ DIRECT = [
         "let the server show a certificate for this name, with its whole chain; an authority of your own is named by "
         "SSL_CERT_FILE", "../why.md#binask"),
     Way("link/no-tls", "24", lambda c: c.link == "no-tls",
-        "{c.request.origin} was asked over TLS, and the handshake failed: it speaks none, or none that is accepted here", "",
+        "{c.request.origin} was asked over TLS, and the handshake failed: it speaks none, or none that is accepted "
+        "here", "",
         "let the server speak TLS at this port{c.or_plain}", "../why.md#binask"),
 ]
 
@@ -422,8 +435,8 @@ LINKS = [
         "{c.why_scheme}the scenario has no server {c.request.origin}: {c.near_server}", "",
         "add a server of this origin, with this scheme and this port{c.or_known}{c.or_https}", "../scenario.md#servers",
         changes.a_server),
-    Way("head/nothing", "25", lambda c: c.link_problem == "nothing", "the server closed the connection without an answer", "",
-        "look into the server's log", HEAD),
+    Way("head/nothing", "25", lambda c: c.link_problem == "nothing",
+        "the server closed the connection without an answer", "", "look into the server's log", HEAD),
     Way("head/tls", "25", lambda c: c.link_problem == "tls", "the server speaks TLS there, and was asked in plain", "",
         "let the route lead to its plain port, or to a side process that adds TLS",
         "../why.md#your-own-server"),
@@ -432,8 +445,8 @@ LINKS = [
     Way("head/bad-line", "25", lambda c: c.link_problem == "bad-line",
         "a header line of the answer is none: a token, a colon right behind it, and a value without control bytes", "",
         "mend the line; none may be folded", HEAD, changes.mended_head),
-    Way("head/many-lines", "25", lambda c: c.link_problem == "many-lines", "the answer has more than 128 header lines", "",
-        "send fewer", HEAD, changes.mended_head),
+    Way("head/many-lines", "25", lambda c: c.link_problem == "many-lines", "the answer has more than 128 header lines",
+        "", "send fewer", HEAD, changes.mended_head),
     Way("head/no-status-line", "25", always,
         "the answer begins with `{c.first_bytes}`, and not with the status line of HTTP/1.1 or HTTP/1.0", "",
         "look whether an HTTP server listens there", HEAD),
@@ -445,8 +458,8 @@ REQUESTS = [
     Way("request/long-url", "f1", lambda c: len(c.command.url) > 8000, "the URL has more than 8,192 bytes", "",
         "send what is long in the body", FAULTS),
     Way("request/url-bytes", "f1", lambda c: re.search("[\udc80-\udcff]", c.command.url) is not None,
-        "the bytes that a template puts into the URL are no UTF-8", "", "take the text from a header, or send other bytes",
-        FAULTS),
+        "the bytes that a template puts into the URL are no UTF-8", "",
+        "take the text from a header, or send other bytes", FAULTS),
     Way("request/no-url", "f1", always, "`{c.command.url}` gives no URL against {c.document[url]}", "",
         "mend it: a bad host, port or address", FAULTS),
     Way("request/url-credentials", "f2", always, "the URL has a user name or a password", "",
@@ -454,19 +467,20 @@ REQUESTS = [
     Way("request/bad-method", "f3", always, "the method `{c.command.options[method]}` is no token", "",
         "write its letters alone: {change}", FAULTS, changes.token_method),
     Way("request/forbidden-method", "f4", always, "scripts may not use {c.command.options[method]}", "",
-        "CONNECT, TRACE and TRACK are never sent: use another method, such as {c.plain_method}", FAULTS, changes.plain_method),
+        "CONNECT, TRACE and TRACK are never sent: use another method, such as {c.plain_method}", FAULTS,
+        changes.plain_method),
     Way("request/body-with-get", "f5", always, "a {c.command.options[method]} has no body, and this one has", "",
         "{change}, and put it into the URL", FAULTS, changes.post_or_no_body),
     Way("request/no-cors-method", "f6", always,
         "in mode no-cors the method is GET, HEAD or POST, and not {c.command.options[method]}", "", "{change}", FAULTS,
         changes.mode_cors),
     Way("request/bad-header-name", "f7", lambda c: not TOKEN.fullmatch(c.bad_name),
-        "the header name `{c.bad_name}` is no token", "", "write its letters alone, without colon and blanks: {change}", FAULTS,
-        changes.mended_header),
+        "the header name `{c.bad_name}` is no token", "", "write its letters alone, without colon and blanks: {change}",
+        FAULTS, changes.mended_header),
     Way("request/bad-header-value", "f7", always, "the value of {c.bad_name} has a line end or a zero byte in it", "",
         "take it out: {change}", FAULTS, changes.mended_header),
-    Way("request/navigate", "f8", always, "scripts may not use the mode navigate", "", "{change}; or in another mode", FAULTS,
-        changes.mode_cors),
+    Way("request/navigate", "f8", always, "scripts may not use the mode navigate", "", "{change}; or in another mode",
+        FAULTS, changes.mode_cors),
     Way("request/long-body", "f9", lambda c: len((c.command.body or "").encode("utf-8", "replace")) > 65536,
         "the body has more than 65,536 bytes", "", "send less at once", FAULTS),
     Way("request/long-headers", "f9", always, "the method and the headers have more than 16,384 bytes together", "",
@@ -477,29 +491,30 @@ REQUESTS = [
 
 SEEN = [
     Way("seen/no-rule", "s", lambda c: c.has_no_rule and c.result.type in ("basic", "loaded", "opaque"),
-        "the scenario's server {c.request.origin} has no rule for {c.request.method} {c.request.target}, so the answer is "
-        "an empty 404; {c.nearest_rule}", "", "add a rule for this request: {change}{c.or_path}",
+        "the scenario's server {c.request.origin} has no rule for {c.request.method} {c.request.target}, so the answer "
+        "is an empty 404; {c.nearest_rule}", "", "add a rule for this request: {change}{c.or_path}",
         "../scenario.md#servers", changes.no_rule),
     Way("seen/opaque", "s", lambda c: c.result.type == "opaque",
-        "the mode is no-cors and the answer of another origin, so the script sees nothing of it: not its status {c.status}, "
-        "no header, no body", "", "{change}", "responses.md#types", changes.in_cors),
+        "the mode is no-cors and the answer of another origin, so the script sees nothing of it: not its status "
+        "{c.status}, no header, no body", "", "{change}", "responses.md#types", changes.in_cors),
     Way("seen/opaqueredirect", "s", lambda c: c.result.type == "opaqueredirect",
-        "the answer redirects ({c.status}), and the redirect mode is manual: the script does not see where to", "Location",
-        "{change}: the URL of the response is the last one", "responses.md#types", changes.follow),
+        "the answer redirects ({c.status}), and the redirect mode is manual: the script does not see where to",
+        "Location", "{change}: the URL of the response is the last one", "responses.md#types", changes.follow),
     Way("seen/body-cut", "23 s", lambda c: c.result.ending == "cut" or c.is_spoilt or c.is_cut_coded,
         "the body ends before the end that its head announced, or does not fit it{c.as_cut}", "{c.framing_header}",
         "{c.whole_again}", "answers.md#the-body", changes.right_length),
     Way("seen/body-hang", "s", lambda c: c.result.ending == "fault" and c.is_silent,
         "the head came, and the body did not end before the time limit", "",
         "end it; of a stream that has no end a page reads what comes, which is not done here", "answers.md#the-body"),
-    Way("seen/body-fault", "s", lambda c: c.result.ending == "fault", "the connection broke in the middle of the body", "",
-        "look into the server's log", "answers.md#the-body"),
-    Way("seen/body-toobig", "s", lambda c: c.result.ending == "toobig", "the body is longer than the scenario's body limit",
+    Way("seen/body-fault", "s", lambda c: c.result.ending == "fault", "the connection broke in the middle of the body",
+        "", "look into the server's log", "answers.md#the-body"),
+    Way("seen/body-toobig", "s", lambda c: c.result.ending == "toobig",
+        "the body is longer than the scenario's body limit",
         "", "set `body_limit`, in format 2", "answers.md#the-body", changes.greater_limit),
     Way("seen/exposed-list", "s", lambda c: c.result.type == "cors" and c.hidden_by_cors != "" and c.bad_exposed != "",
-        "`{c.bad_exposed}` in Access-Control-Expose-Headers is no token, so nothing is exposed: the script does not see "
-        "{c.hidden_by_cors}", EXPOSE_HEADERS, "{change}: commas between the names, and no quotes, colons or blanks in one", EXPOSED,
-        changes.expose),
+        "`{c.bad_exposed}` in Access-Control-Expose-Headers is no token, so nothing is exposed: the script does not "
+        "see {c.hidden_by_cors}", EXPOSE_HEADERS,
+        "{change}: commas between the names, and no quotes, colons or blanks in one", EXPOSED, changes.expose),
     Way("seen/star-with-credentials", "s",
         lambda c: c.result.type == "cors" and c.hidden_by_cors != "" and c.includes and "*" in c.exposed,
         "with credentials `*` is a plain name and exposes nothing: the script does not see {c.hidden_by_cors}",
@@ -521,7 +536,8 @@ ASKED = {
                        "here"),
     "no-verdict/coded": ("no verdict: {c.coding} is not decoded here{c.why_coded}{c.if_coded}{c.but_gzip}; known "
                          "without it: the status {c.status}, and that CORS, policies and types let it",
-                         "{c.if_gzip}{c.or_install}for a verdict here send the body uncoded, and {change}{c.unless_gzip}"),
+                         "{c.if_gzip}{c.or_install}for a verdict here send the body uncoded, and "
+                         "{change}{c.unless_gzip}"),
     "seen/body-toobig": ("the body is longer than the 1,048,576 bytes that are read here", "nothing: a page reads on"),
 }
 
@@ -543,7 +559,7 @@ def way_lines() -> Iterator[str]:
         yield f"{way.name} ({way.results}): {condition}"
 
 
-# Of these nothing was sent to the server: what CORS will want of it is said at once.
+# Here nothing was sent to the server: what CORS will want of it is said at once.
 UNSENT = [way for way in TABLE if way.results in ("3", "4") or way.name in ("head/no-server", "same-origin/other")]
 
 
@@ -652,7 +668,7 @@ def exposed(edit: Edit, is_unknown: bool) -> str:
 
 
 def exposed_too(edit: Edit, c: Case, needs: Needs) -> str:
-    """The same behind a change. Of headers that the script reads it is no question."""
+    """The same behind a change. It does not ask about headers that the script reads."""
     names = {name.lower() for name in c.unexposed_names(needs.own)}
     read = [name for name in dict.fromkeys(c.read_names) if name.lower() in names]
     why = f"since the script reads {edits.listed(read)}" if read else "where the script is to see these headers"
@@ -670,14 +686,16 @@ def misspelt(c: Case, wanted: Any) -> str | None:
     right = {"access-control-" + one for one in ("allow-origin", "allow-credentials", "allow-methods", "allow-headers",
                                                  "expose-headers", "max-age")}
     names = {name.lower(): name for name, _ in (c.head.headers if c.head else [])}
-    near = difflib.get_close_matches(wanted.lower(), sorted(set(names) - right), 1, 0.85) if wanted.lower() in right else []
+    if wanted.lower() not in right:
+        return None
+    near = difflib.get_close_matches(wanted.lower(), sorted(set(names) - right), 1, 0.85)
     return names[near[0]] if near else None
 
 
 def key_of(result: Result) -> str:
     if not result.is_refused():
         return "s"
-    return ("f%d" if result.is_fault else "%d") % result.number
+    return f"f{result.number}" if result.is_fault else str(result.number)
 
 
 def way_of(case: Case, key: str) -> Way | None:

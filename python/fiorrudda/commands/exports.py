@@ -76,7 +76,7 @@ class Export:
                 kept[key] = exchange.answer
                 rules.setdefault(request.origin, []).append(self.rule_of(request, exchange))
             elif kept[key] != exchange.answer:
-                self.lacks.append("%s %s was answered twice: the first answer is kept" % key[1:])
+                self.lacks.append(f"{request.method} {request.target} was answered twice: the first answer is kept")
         return [{"origin": origin, "rules": own} for origin, own in rules.items()]
 
     def rule_of(self, request: AnyRequest, exchange: Exchange) -> Object:

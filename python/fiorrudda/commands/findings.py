@@ -25,8 +25,8 @@ def violations(case: Case) -> list[Object]:
 
 def told_violations(case: Case) -> list[str]:
     """Each as it is printed, once: a report-only policy is told at the request and at the response."""
-    form = "%(policy)d %(disposition)s %(directive)s %(url)s"
-    return list(dict.fromkeys(form % one for one in violations(case)))
+    return list(dict.fromkeys(f"{one['policy']} {one['disposition']} {one['directive']} {one['url']}"
+                              for one in violations(case)))
 
 
 def upgrades(case: Case) -> list[dict[str, str]]:

@@ -27,14 +27,18 @@ def body_of(texts: list[str]) -> tuple[bytes, str]:
     return b"".join(b"%b\r\n%b\r\n" % (mark, part) for part in parts) + mark + b"--\r\n", TYPE + boundary
 
 
+def in_quotes(name: str) -> str:
+    return '"' + name.replace('"', "%22") + '"'
+
+
 def part_of(text: str) -> bytes:
     """A part with its head."""
     name, sign, value, more = there(PART.fullmatch(text)).groups()
     given = dict(one.split("=", 1) for one in more.split(";")[1:])
     data = streams.read(value) if sign else value.encode("utf-8", "surrogateescape")
-    head = 'Content-Disposition: form-data; name="%s"' % name.replace('"', "%22")
+    head = f"Content-Disposition: form-data; name={in_quotes(name)}"
     if sign == "@":
-        head += '; filename="%s"' % given.get("filename", os.path.basename(value)).replace('"', "%22")
+        head += f"; filename={in_quotes(given.get('filename', os.path.basename(value)))}"
     kind = given.get("type", "application/octet-stream" if sign == "@" else None)
     head += "\r\nContent-Type: " + kind if kind else ""
     return head.encode("utf-8", "surrogateescape") + b"\r\n\r\n" + data

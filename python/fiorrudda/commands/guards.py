@@ -44,9 +44,6 @@ LANGUAGES = re.compile(r"[0-9A-Za-z *,\-.;=]*")
 RANGE = re.compile(r"bytes=([0-9]+)-([0-9]*)")
 # What says who asks: of several headers that are dropped these are told first.
 CREDENTIALS = ("authorization", "cookie", "proxy-authorization")
-CLOSED_TO_SCRIPTS = "dropped, since no script may set it: %s"
-CLOSED_IN_NO_CORS = ("dropped, since in mode no-cors a script sets Accept, Accept-Language, Content-Language and "
-                     "Content-Type alone, with values that a form could send: %s")
 USER_AGENT = ("`User-Agent` is the script's: browsers send their own, and one that lets a script set it asks for a "
               "preflight of another origin first; leave it out, where it came with a command line of curl")
 
@@ -122,9 +119,11 @@ def notes(headers: Pairs, mode: str) -> Iterator[str]:
     others = [(name, value.strip("\t\n\r ")) for name, value in headers if in_place(name, value) is None]
     unsafe = [name for name, value in others if (name, value) not in left]
     if closed:
-        yield CLOSED_TO_SCRIPTS % told(closed)
+        yield f"dropped, since no script may set it: {told(closed)}"
     if unsafe:
         own = {"user-agent": "browsers send their own"}
-        yield CLOSED_IN_NO_CORS % told([(name, own.get(name.lower(), "")) for name in unsafe])
+        dropped = told([(name, own.get(name.lower(), "")) for name in unsafe])
+        yield ("dropped, since in mode no-cors a script sets Accept, Accept-Language, Content-Language and "
+               f"Content-Type alone, with values that a form could send: {dropped}")
     if any(name.lower() == "user-agent" and (name, value) in left for name, value in others):
         yield USER_AGENT

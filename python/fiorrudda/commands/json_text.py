@@ -176,8 +176,10 @@ class Reader:
         """What is in other quotes than double ones."""
         if not sign:
             raise Fault(len(self.text), "the text ends, and a value is missing")
-        found = re.compile(r"[%s]([^\n%s]{0,60})[%s]" % ((re.escape(SINGLE + CURLY),) * 3)).match(self.text, self.at)
-        more = ': write "%s"' % found.group(1).replace('"', '\\"') if found else ""
+        quotes = re.escape(SINGLE + CURLY)
+        found = re.compile(rf"[{quotes}]([^\n{quotes}]{{0,60}})[{quotes}]").match(self.text, self.at)
+        text = found.group(1).replace('"', '\\"') if found else None
+        more = "" if text is None else f': write "{text}"'
         raise Fault(self.at, "a text stands in straight double quotes" + more)
 
     def scalar(self, sign: str) -> Node:
@@ -217,9 +219,9 @@ class Reader:
         if word in ("None", "undefined", "nil", "NaN", "Infinity", "NULL", "Null"):
             return f"{word} is no value: leave the key out"
         if re.match(r"[-+.0-9]", word):
-            return "%s is no number as JSON has it: write its digits alone, such as %s" % (
-                word, re.sub(r"\D", "", word).lstrip("0") or "0")
-        return 'a text stands in double quotes: write "%s"' % word
+            digits = re.sub(r"\D", "", word).lstrip("0") or "0"
+            return f"{word} is no number as JSON has it: write its digits alone, such as {digits}"
+        return f'a text stands in double quotes: write "{word}"'
 
     # ---- objects and lists
 
@@ -285,7 +287,7 @@ class Reader:
             self.refuse_quote(sign)
         if sign != '"':
             word = WORD.match(self.text, self.at)
-            raise Fault(self.at, 'a key stands in double quotes: write "%s"' % word.group() if word
+            raise Fault(self.at, f'a key stands in double quotes: write "{word.group()}"' if word
                         else f"a key in double quotes belongs here, not {self.shown()}")
         key = self.string()
         sign = self.sign()
@@ -294,7 +296,7 @@ class Reader:
             return key, self.value()
         if sign == "=":
             raise Fault(self.at, "a colon stands between a key and its value, and no =")
-        raise Fault(key.end, 'a colon and a value are missing behind the key "%s"' % key.value)
+        raise Fault(key.end, f'a colon and a value are missing behind the key "{key.value}"')
 
     # ---- texts
 
@@ -329,7 +331,8 @@ class Reader:
         """What ends a text, or has no place in it."""
         sign = self.text[self.at:self.at + 1]
         if sign == "\\":
-            return self.at, "%s is no escape: write \\\\ for a backslash" % self.text[self.at:self.at + 2].rstrip("\n")
+            escape = self.text[self.at:self.at + 2].rstrip("\n")
+            return self.at, f"{escape} is no escape: write \\\\ for a backslash"
         if sign == "\t":
             return self.at, "a tab stands in this text: write \\t for it"
         if sign and sign not in "\r\n":

@@ -195,8 +195,9 @@ class Book:
 
     def of_zero(self, names: list[str]) -> str:
         name = next((name for name in names if name in self.never), None)
-        said = "%s said max-age=0, and that makes no known host"
-        return said % field_of(name, self.counts.get(name, 1)) if name else ""
+        if name is None:
+            return ""
+        return f"{field_of(name, self.counts.get(name, 1))} said max-age=0, and that makes no known host"
 
     def of_neighbour(self, host: str, now: int) -> str:
         other = self.by_site.get(site_of(host))

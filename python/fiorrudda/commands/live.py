@@ -148,7 +148,9 @@ class Wire:
         """Looks into a body that the engine does not read, as far as it comes soon, for what is to be said of it."""
         exchange = self.exchanges[-1] if self.exchanges else None
         head = answers.Answer(exchange.answer).head if exchange else None
-        if exchange is None or head is None or self.socket is None or there(exchange).failure or there(exchange).stream.is_opened:
+        if exchange is None or head is None or self.socket is None:
+            return
+        if exchange.failure or exchange.stream.is_opened:
             return
         fault = codings.fault_in(head, self.soon(exchange, head.end), there(exchange).stream.codings)
         # Broken chunks are read by some browsers: of a framing its early end alone is a fault.
@@ -158,7 +160,9 @@ class Wire:
         """Takes what comes soon behind the length of a body whose coding is cut there."""
         exchange = self.exchanges[-1] if self.exchanges else None
         cut = (exchange.stream.cut or exchange.unread) if exchange else None
-        if exchange is None or cut is None or cut.coding is None or cut.is_other or self.socket is None or there(exchange).failure:
+        if exchange is None or cut is None or self.socket is None:
+            return
+        if cut.coding is None or cut.is_other or exchange.failure:
             return
         try:
             for _ in self.soon(exchange, len(there(exchange).answer)):

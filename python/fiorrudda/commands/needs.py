@@ -196,14 +196,15 @@ class Needs:
         return ([self.preflight_line()] if self.is_preflighted() else []) + [self.own_line()]
 
     def preflight_line(self) -> str:
-        return "the answer to OPTIONS at %s%s needs a status of 200 to 299%s%s%s" % (
-            self.url, self.as_null(), "".join(", " + self.told(self.asked, *pair) for pair in self.of_preflight()),
-            edits.UNSEEN if self.asked is None else "", self.where_trusted(self.asked))
+        headers = "".join(", " + self.told(self.asked, *pair) for pair in self.of_preflight())
+        unseen = edits.UNSEEN if self.asked is None else ""
+        return (f"the answer to OPTIONS at {self.url}{self.as_null()} needs a status of 200 to 299{headers}{unseen}"
+                f"{self.where_trusted(self.asked)}")
 
     def own_line(self) -> str:
         needed = ", ".join(self.told(self.own, *pair) for pair in self.of_own())
-        return "the answer to %s at %s%s needs %s%s%s" % (
-            self.method, self.url, self.leading() or self.as_null(), needed, self.known(), self.where_trusted(self.own))
+        return (f"the answer to {self.method} at {self.url}{self.leading() or self.as_null()} needs {needed}"
+                f"{self.known()}{self.where_trusted(self.own)}")
 
     def as_null(self) -> str:
         """That a detour has taken the origin of the request, so that `*` alone passes it."""

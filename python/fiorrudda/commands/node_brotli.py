@@ -15,7 +15,8 @@ if TYPE_CHECKING:
 
 # What node says: bytes that it made, that a piece is taken, and how it ends.
 DATA, TAKEN, WHOLE, CUT, BROKEN = b"dtwcb"
-# It reads a length of four bytes and a piece behind it, until its input ends. What it says is a kind, a length and bytes.
+# It reads a length of four bytes and a piece behind it, until its input ends. What it says is a kind, a length and
+# bytes.
 SCRIPT = """
 const fs = require("node:fs");
 const machine = require("node:zlib").createBrotliDecompress();

@@ -20,9 +20,6 @@ UPGRADES = {
 }
 # As docs/BROWSERS.md has it measured.
 IN_A_BROWSER = "in a browser "
-MAY_STAY = IN_A_BROWSER + "%s may stay http"
-LOOPBACK = (MAY_STAY + ": Chromium and Firefox leave `http://127.0.0.1` alone, where the standard upgrades it "
-            "(docs/BROWSERS.md)")
 SAME_SITE = ("Chromium sends them only where they were set with SameSite=None and Secure, and many users block them, "
              "but for those with `Partitioned` too, which are kept for each site at the top (CHIPS; docs/BROWSERS.md)")
 OTHER_SITE = ("the cookies of {origin} go to another site than the page's, and a browser also applies SameSite, "
@@ -57,7 +54,12 @@ def upgrades(case: Case) -> Iterator[str]:
         if cause and host_of(hop.asked):
             yield f"{hop.asked} became {secure(hop.asked)}: {UPGRADES.get(cause, known_by)}"
         if is_own(case, hop):
-            yield LOOPBACK % hop.asked
+            yield (f"{may_stay(hop.asked)}: Chromium and Firefox leave `http://127.0.0.1` alone, where the standard "
+                   "upgrades it (docs/BROWSERS.md)")
+
+
+def may_stay(url: str) -> str:
+    return f"{IN_A_BROWSER}{url} may stay http"
 
 
 def is_own(case: Case, hop: Hop) -> bool:

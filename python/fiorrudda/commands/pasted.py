@@ -114,8 +114,8 @@ class Said:
             with_cookies = self.given.pasted or "cookie" in self.values
             if mode == "cors" and kind not in CORS_LOADS:
                 self.crossorigin = self.crossorigin or ("use-credentials" if with_cookies else "anonymous")
-            self.note("the copied request was that of an element: --load %s%s" % (
-                kind, " --crossorigin " + self.crossorigin if self.crossorigin else ""))
+            crossorigin = f" --crossorigin {self.crossorigin}" if self.crossorigin else ""
+            self.note(f"the copied request was that of an element: --load {kind}{crossorigin}")
         elif mode in ("no-cors", "same-origin"):
             self.mode = mode
             self.note(f"the copied request says so: --mode {mode}")
@@ -145,17 +145,16 @@ class Said:
         for name, value in self.headers:
             if "'" in name:
                 self.note(f"the header `{name}` has a quote in its name, which is sent: take it away where it is one "
-                          "of the "
-                          "shell")
+                          "of the shell")
             if not value:
                 self.note(f"`{name}` is sent without a value")
             if name in self.given.glued:
                 self.note(f"the URL behind `{name}:` is sent as the value of that header{OWN_WORD}")
         hints = [name for name, _ in self.headers if name.lower() in HINTS]
         if hints and self.is_copied and self.is_foreign():
-            self.note("the browser may have added %s by itself (client hints), which asks for no preflight: leave out "
-                      "what no script has set; what one has set has to stand in Access-Control-Allow-Headers"
-                      % ", ".join(f"`{name}`" for name in hints))
+            names = ", ".join(f"`{name}`" for name in hints)
+            self.note(f"the browser may have added {names} by itself (client hints), which asks for no preflight: "
+                      "leave out what no script has set; what one has set has to stand in Access-Control-Allow-Headers")
 
     def reason_against(self, word: str, value: str) -> str | None:
         if word == "user-agent" and (self.load or self.mode == "no-cors"):  # where no script sets one

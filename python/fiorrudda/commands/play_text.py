@@ -14,8 +14,9 @@ if TYPE_CHECKING:
     from fiorrudda.commands.scenario import Command
     from fiorrudda.commands.shapes import AnyRequest, Pairs
 
-RESULT = re.compile(r"result (?:(error|failed) (?:(type-error) )?(\d+) (\w+)(?: (\S+))?|type-error (\d+) (\w+)(?: (\d+))?"
-                    r"|(loaded)|(%s) (\d+) (.*))" % "|".join(RESPONSE_TYPES))
+RESULT = re.compile(r"result (?:(error|failed) (?:(type-error) )?(\d+) (\w+)(?: (\S+))?"
+                    r"|type-error (\d+) (\w+)(?: (\d+))?"
+                    rf"|(loaded)|({'|'.join(RESPONSE_TYPES)}) (\d+) (.*))")
 BODY = re.compile(r"  body (?:(none)|(whole) (\d+): (.*)|(cut|fault) (\d+)|(toobig))")
 HEADER = re.compile(r"  ([^:]+): (.*)")
 DOCUMENT = re.compile(r"document (\d+) (.*)")

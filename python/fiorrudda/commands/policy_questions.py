@@ -66,13 +66,14 @@ def problem(text: str) -> str | None:
     """What is wrong with an item, in a sentence; None where nothing is."""
     found = ITEM.fullmatch(text)
     if found is None:
-        return 'write what loads the URL before it, as in %s: one of %s' % (EXAMPLE, ", ".join(KINDS))
+        return f"write what loads the URL before it, as in {EXAMPLE}: one of {', '.join(KINDS)}"
     _, kind, url = found.groups()
     if kind not in KINDS:
         if kind.lower() in UNASKED:
             return f"no directive is asked here about what is loaded as {kind}, but about {', '.join(KINDS)}"
         meant = MEANT.get(kind.lower()) or nearest(kind, KINDS)
-        return 'nothing is loaded as "%s": write %s' % (kind, '"%s"' % meant if meant else "one of " + ", ".join(KINDS))
+        to_write = f'"{meant}"' if meant else "one of " + ", ".join(KINDS)
+        return f'nothing is loaded as "{kind}": write {to_write}'
     if re.search(r"\s", url):
         return "a URL has no blanks: write %20 for one, and each URL in a text of its own"
     if url.strip("'").lower() in WORDS or url[0] in "'*":
@@ -81,9 +82,9 @@ def problem(text: str) -> str | None:
         return slips.of_url(url)
     scheme = scheme_of(url) if re.match(r"[A-Za-z][A-Za-z0-9+.-]*:", url) else ""
     if scheme in SOCKETS and kind != "fetch":
-        return 'a WebSocket is asked for by a script: write "fetch %s"' % url
+        return f'a WebSocket is asked for by a script: write "fetch {url}"'
     if scheme not in ("", "http", "https", *LOCAL, *SOCKETS):
-        return 'no policy is asked here about "%s:", but about http, https, data, blob, ws and wss' % scheme
+        return f'no policy is asked here about "{scheme}:", but about http, https, data, blob, ws and wss'
     if "${" in url:
         return "no template stands in this URL: write %24{ for ${"
     return None
@@ -115,8 +116,10 @@ def differences(pairs: list[tuple[Case | None, Question]], kept_out: dict[int, l
         lines = list(difference(question, case))
         lack = lacking_of(question.key, case) if lines and case and question.key in KEPT_OUT else None
         if lack:
-            lines.append("  change: let policy %d say `%s 'none'`, or in the place of `'none'` what is to pass" % lack)
-            lacking.setdefault(question.document, {}).setdefault(lack[0], []).append(lack[1])
+            policy, directive = lack
+            lines.append(f"  change: let policy {policy} say `{directive} 'none'`, or in the place of `'none'` what is "
+                         "to pass")
+            lacking.setdefault(question.document, {}).setdefault(policy, []).append(directive)
         groups.append((question.text, lines, lines != [] and question.key in LET_IN and of_slips(case)))
     yield from slips_once(groups)
 

@@ -24,7 +24,8 @@ ONLY_THE_PROGRAM = [
     (r"/(?:url|top)$", "this is no http or https URL without user name and password, and of at most 8,192 bytes"),
     (r"/hsts/\d+/host$", "this is no domain as URLs have it: lower case, no address, no port"),
     (r"/(?:origin|cookies/\d+/0|routes/\d+/0)$",
-     "this is no origin as URLs have it: scheme, ://, the host in lower case, and a port that is not the scheme's default"),
+     "this is no origin as URLs have it: scheme, ://, the host in lower case, and a port that is not the scheme's "
+     "default"),
     (r"/cookies/\d+/1$", "a cookie's value has 1 to 4,096 bytes"),
     (r"/repeat$", "at most eight repeat stand inside each other: this is one more"),
     (r"/if$", "at most sixteen if stand inside each other: this is one more"),
@@ -39,7 +40,8 @@ FAMILIAR = {"uri": "url", "href": "url", "src": "url", "type": "kind", "withcred
 OWNERS = {"server": "a server", "rule": "a rule of a server", "fetch": "the fetch", "load": "the load",
           "document1": "a document", "document2": "a document", "format1": "the scenario", "format2": "the scenario",
           "host": "a known host"}
-TYPES = {"object": "an object", "array": "a list", "string": "a text", "integer": "a whole number", "boolean": "true or false"}
+TYPES = {"object": "an object", "array": "a list", "string": "a text", "integer": "a whole number",
+         "boolean": "true or false"}
 GIVEN = {"object": "an object", "list": "a list", "string": "a text"}
 
 
@@ -151,27 +153,27 @@ def nearest(word: str, known: Collection[str]) -> str | None:
 def unknown_key(problem: Problem, schema: Schema) -> str:
     meant = nearest(problem.name, problem.wanted)
     if meant is not None:
-        return 'the key "%s" is unknown here: write "%s"' % (problem.name, meant)
+        return f'the key "{problem.name}" is unknown here: write "{meant}"'
     if problem.is_of("with_headers"):
-        return 'the key "%s" is unknown here: a request stands so, {"request": "PUT /x", "has": {"Cookie": true}}' % (
-            problem.name)
+        return (f'the key "{problem.name}" is unknown here: a request stands so, '
+                '{"request": "PUT /x", "has": {"Cookie": true}}')
     owners = [OWNERS[one["is"]] for one in schema.owners(problem.name) if one["is"] in OWNERS]
     is_of_server = problem.path[:1] == ["servers"] and OWNERS["rule"] in owners
     first: str | None = owners[0] if owners else None
     owner = OWNERS["rule"] if is_of_server else first
     if problem.name == "body_limit" or problem.name == "top":
-        return 'the key "%s" is of format 2: write "format": 2' % problem.name
+        return f'the key "{problem.name}" is of format 2: write "format": 2'
     if owner is not None:
-        return 'the key "%s" has no place here: it belongs in %s' % (problem.name, owner)
-    return 'the key "%s" is unknown here: take it out' % problem.name
+        return f'the key "{problem.name}" has no place here: it belongs in {owner}'
+    return f'the key "{problem.name}" is unknown here: take it out'
 
 
 def missing_key(problem: Problem, schema: Schema) -> str:
-    return 'the key "%s" is missing in this object: add it' % problem.name
+    return f'the key "{problem.name}" is missing in this object: add it'
 
 
 def key_beside(problem: Problem, schema: Schema) -> str:
-    return 'the key "%s" does not stand beside "raw", which has the whole answer: take one of them out' % problem.name
+    return f'the key "{problem.name}" does not stand beside "raw", which has the whole answer: take one of them out'
 
 
 # ---- values
@@ -201,33 +203,34 @@ def change_to_word(node: Node, problem: Problem) -> str:
 
 def change_to_text(node: Node, problem: Problem) -> str:
     if problem.is_of("route") or "routes" in problem.path:
-        return 'write the whole address, such as "127.0.0.1:%s"' % (node.text or 8000)
+        return f'write the whole address, such as "127.0.0.1:{node.text or 8000}"'
     if node.kind in ("object", "list"):
-        return "write it as one text: %s" % shown(json.dumps(node.plain(), ensure_ascii=False))[:200]
-    return 'write "%s"' % node.text
+        return f"write it as one text: {shown(json.dumps(node.plain(), ensure_ascii=False))[:200]}"
+    return f'write "{node.text}"'
 
 
 def change_to_list(node: Node, problem: Problem) -> str:
     if node.kind == "object" and problem.path[-1] in ("headers", "cookies", "routes"):
-        return "write a list of pairs: %s" % shown([list(pair) for pair in node.plain().items()])[:200]
+        return f"write a list of pairs: {shown([list(pair) for pair in node.plain().items()])[:200]}"
     if node.kind == "string" and isinstance(problem.path[-1], int) and ":" in node.value:
         name, _, value = node.value.partition(":")
         return f"write a pair: {shown([name.strip(), value.strip()])}"
     if node.kind == "string" and isinstance(problem.path[-1], int):
-        return 'each item is a pair in a list of its own, such as [["%s", "..."]]' % node.value
+        return f'each item is a pair in a list of its own, such as [["{node.value}", "..."]]'
     return "put it into brackets, [ and ]"
 
 
 def change_to_object(node: Node, problem: Problem) -> str:
     if node.kind == "string" and problem.path and problem.path[-1] in ("fetch", "load"):
         kind = '"kind": "image", ' if problem.path[-1] == "load" else ""
-        return 'write {%s"url": %s}' % (kind, shown(node.value))
+        return f'write {{{kind}"url": {shown(node.value)}}}'
     if node.kind == "string" and problem.path[:1] == ["hsts"]:
         host = re.sub(r"^[a-z]+://|[/:].*$", "", str(node.value).lower())
-        return 'write {"host": %s, "subdomains": true, "until": 31536000}' % shown(host)
+        return f'write {{"host": {shown(host)}, "subdomains": true, "until": 31536000}}'
     if node.kind == "list" and problem.path[-1:] in (["sees"], ["has"]):
         names = [one.value for one in node.items if isinstance(one.value, str)] or ["X-Total"]
-        return "write {%s}" % ", ".join(f"{shown(name)}: true" for name in names)[:200]
+        pairs = ", ".join(f"{shown(name)}: true" for name in names)
+        return f"write {{{pairs[:200]}}}"
     if node.kind == "list" and len(node.items) == 1:
         return "take the brackets away"
     return "write its keys and values between { and }"
@@ -245,8 +248,8 @@ def other_word(problem: Problem, schema: Schema) -> str:
     texts = [one for one in problem.wanted if isinstance(one, str) and one]
     meant = nearest(given.value, texts) if given.kind == "string" and texts else None
     if problem.path[-1:] == ["credentials"] and given.value in (True, False):
-        return '%s is none of the words that may stand here: write %s' % (
-            told, '"include"' if given.value else '"omit"')
+        word = "include" if given.value else "omit"
+        return f'{told} is none of the words that may stand here: write "{word}"'
     if problem.path and problem.path[-1] == "format":
         return f"{told} is no format: write 1, or 2"
     if meant is not None:
@@ -264,7 +267,8 @@ def other_number(problem: Problem, schema: Schema) -> str:
 def other_length(problem: Problem, schema: Schema) -> str:
     (least, most), count = problem.wanted, len(problem.node.items)
     if (least, most) == (2, 2):
-        return "a pair has two parts, and here %s: write a list of two" % ("is one" if count == 1 else f"are {count}")
+        here = "is one" if count == 1 else f"are {count}"
+        return f"a pair has two parts, and here {here}: write a list of two"
     if most is None or count < least:
         return f"at least {least} belong here, and these are {count}"
     return f"at most {most} may stand here, and these are {count}: take some out"
@@ -277,8 +281,8 @@ def other_form(problem: Problem, schema: Schema) -> str:
     if problem.is_of("request") or problem.is_of("sent"):
         return 'this is no request: write "PUT /x", or {"request": "PUT /x", "has": {"Cookie": true}}'
     if problem.path[-1:] == ["upgraded"]:
-        return ('these are no URLs: write one, such as "https://b.test/logo.png mixed", a list of them, or [] where there '
-                "is no upgrade")
+        return ('these are no URLs: write one, such as "https://b.test/logo.png mixed", a list of them, or [] where '
+                "there is no upgrade")
     if problem.is_of("urls"):
         return 'these are no URLs: write each behind what loads it, such as "script https://cdn.example/app.js"'
     if problem.is_of("outcome"):
@@ -332,21 +336,21 @@ def advice_on_origin(value: str, problem: Problem) -> str:
 
 def advice_on_host(value: str) -> str:
     right = re.sub(r"^[a-z]+://|[:/].*$", "", value.lower())
-    return "a known host is a domain alone, in lower case, no address and not localhost: write %s" % shown(
-        right if "." in right and not re.fullmatch(r"[0-9.]+", right) else "b.test")
+    right = right if "." in right and not re.fullmatch(r"[0-9.]+", right) else "b.test"
+    return f"a known host is a domain alone, in lower case, no address and not localhost: write {shown(right)}"
 
 
 def advice_on_header(value: str, part: int) -> str:
     if part == 0:
         name = re.sub(r"[^!#$%&'*+\-.^_`|~0-9A-Za-z]", "", value)
         return f"a header's name has no blank, colon or line end: write {shown(name or 'X-A')}"
-    return "a header's value has no blank at its ends, and no line end or zero byte: write %s" % shown(
-        re.sub(r"[\r\n\0]+", " ", value).strip(" \t"))
+    right = re.sub(r"[\r\n\0]+", " ", value).strip(" \t")
+    return f"a header's value has no blank at its ends, and no line end or zero byte: write {shown(right)}"
 
 
 def advice_on_template(value: str, problem: Problem) -> str:
     found = there(re.search(r"\$\{[^}]*\}?", value)).group()
-    return "%s is no template: there are ${status}, ${type}, ${url}, ${body} and ${header:NAME}" % found
+    return found + " is no template: there are ${status}, ${type}, ${url}, ${body} and ${header:NAME}"
 
 
 def advice_on_url(value: str) -> str:
@@ -357,10 +361,10 @@ def advice_on_url(value: str) -> str:
     if re.match(r"[A-Za-z][A-Za-z0-9+.-]*:", value):
         url = re.sub(r"^[A-Za-z0-9+.-]+:/*", "https://", value)
         return f"a document's URL is of http or https: write {shown(url)}"
-    return "a document's URL is a whole one: write %s" % shown(
-        "https://" + value.lstrip("/") if re.match(r"/*[a-z0-9-]+\.", value) else "https://a.test/" + value.lstrip("/"))
+    start = "https://" if re.match(r"/*[a-z0-9-]+\.", value) else "https://a.test/"
+    return f"a document's URL is a whole one: write {shown(start + value.lstrip('/'))}"
 
 
 ADVICE = {"origin": advice_on_origin, "template": advice_on_template}
-SENTENCES = {"unknown": unknown_key, "missing": missing_key, "beside": key_beside, "type": other_type, "word": other_word,
-             "number": other_number, "length": other_length, "form": other_form, "text": other_text}
+SENTENCES = {"unknown": unknown_key, "missing": missing_key, "beside": key_beside, "type": other_type,
+             "word": other_word, "number": other_number, "length": other_length, "form": other_form, "text": other_text}

@@ -43,7 +43,7 @@ def origin_of(url: str) -> str | None:
     if parts.scheme not in DEFAULT_PORTS or not host:
         return None
     host = f"[{host}]" if ":" in host else host
-    return "%s://%s%s" % (parts.scheme, host, "" if port in (None, DEFAULT_PORTS[parts.scheme]) else f":{port}")
+    return f"{parts.scheme}://{host}" + ("" if port in (None, DEFAULT_PORTS[parts.scheme]) else f":{port}")
 
 
 def joined(url: str, base: str) -> str:
@@ -165,7 +165,8 @@ class Scenario:
         self.more_asks: dict[int, list[tuple[str, str]]] = {}  # as ask_besides has it
         self.untrusted: set[int] = set()  # the numbers of documents of which a test wants all refused
         self.budget: Budget | None = None  # of what is mended
-        self.answers: dict[tuple[int | None, int | None], Answer] = {}  # of its rules, by the numbers of the server and the rule
+        # of its rules, by the numbers of the server and the rule
+        self.answers: dict[tuple[int | None, int | None], Answer] = {}
 
     def servers(self) -> list[Object]:
         found: list[Object] = self.data.get("servers", [])

@@ -30,5 +30,6 @@ def of_cookies(value: str) -> str | None:
     """What is to be said of attributes of Set-Cookie among the cookies that are sent, or None."""
     names = [part.partition("=")[0].strip() for part in value.split(";")[1:]]
     found = [name for name in names if name.lower() in ATTRIBUTES]
-    said = "`%s` is an attribute of Set-Cookie, and is sent as a cookie here: leave it out"
-    return said % found[0] if found else None
+    if not found:
+        return None
+    return f"`{found[0]}` is an attribute of Set-Cookie, and is sent as a cookie here: leave it out"

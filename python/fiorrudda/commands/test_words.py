@@ -37,12 +37,13 @@ def key_meant(key: str, others: Iterable[str]) -> str | None:
     if found:
         document, kind, number = found.groups()
         before = f"document {int(document)} " if document and int(document) else ""
-        return '"%s%s %d"' % (before, "fetch" if kind.lower() == "fetch" else "load", int(number))
+        name = "fetch" if kind.lower() == "fetch" else "load"
+        return f'"{before}{name} {int(number)}"'
     if re.fullmatch(r"(?:not|un)\W?_?sent", key, re.I):
         return '"never sent"'
     plain = {re.sub(r"[\W_]", "", one): one for one in others}
     near = difflib.get_close_matches(re.sub(r"[\W_]", "", key).lower(), list(plain), 1, 0.65)
-    return '"%s"' % plain[near[0]] if near else None
+    return f'"{plain[near[0]]}"' if near else None
 
 
 def result_problem(wanted: str, kind: str, ways: Container[str]) -> str | None:
@@ -54,13 +55,13 @@ def result_problem(wanted: str, kind: str, ways: Container[str]) -> str | None:
     if not words:
         return 'this text is empty: write "read", "refused", or a result as it is printed'
     if word is not None:
-        return 'no result has the word "%s": write %s' % (word, meant(rest, word, ways))
+        return f'no result has the word "{word}": write {meant(rest, word, ways)}'
     if len(words) > 1 and set(words) & set(results.ALONE):
         other = " ".join(one for one in words if one not in results.ALONE) or words[0]
-        return '"%s" says two things at once: write %s%s"' % (rest, before, other)
+        return f'"{rest}" says two things at once: write {before}{other}"'
     if words[0] in NOT_OF[kind]:
         other = "refused" if words[0] in ("failed", "error") else "read"
-        return 'no %s comes to "%s": write %s%s"' % (kind, words[0], before, other)
+        return f'no {kind} comes to "{words[0]}": write {before}{other}"'
     return number_problem(words, before)
 
 
@@ -69,22 +70,22 @@ def number_problem(words: list[str], before: str) -> str | None:
     for number, name in zip(words, words[1:]):
         if number.isdigit() and name in results.NETWORK_ERRORS:
             right = results.NETWORK_ERRORS.index(name) + 1
-            return None if int(number) == right else '%s is %d: write %s%d %s"' % (name, right, before, right, name)
+            return None if int(number) == right else f'{name} is {right}: write {before}{right} {name}"'
     return None
 
 
 def meant(text: str, word: str, ways: Container[str]) -> str:
     """What to write in place of a result with a word that none has."""
     if word in ways:
-        return '{"why": "%s"}' % word
+        return f'{{"why": "{word}"}}'
     if re.match(r"https?://", word) or re.fullmatch(r"\d{3} OK", text):
-        return '"%s"' % text.replace(word, "").strip()
+        return '"' + text.replace(word, "").strip() + '"'
     known = MEANT.get(text.lower()) or MEANT.get(word.lower())
     if known:
         return known
     near = [one for one in results.WORDS if one.lower() == word.lower()]
     near = near or difflib.get_close_matches(word, results.WORDS, 1, 0.8)
-    return '"%s"' % near[0] if near else "read, refused, a result as it is printed, or not and one of these"
+    return f'"{near[0]}"' if near else "read, refused, a result as it is printed, or not and one of these"
 
 
 def request_problem(text: str) -> str | None:
@@ -96,4 +97,4 @@ def request_problem(text: str) -> str | None:
     sent = (origin_of(where) or "") + target if where else ""
     if (right, sent) == (method, where) or where.startswith("http") and origin_of(where) is None:
         return None
-    return "no request is sent as %s: write %s" % (json.dumps(text), json.dumps(" ".join(filter(None, [right, sent]))))
+    return f"no request is sent as {json.dumps(text)}: write {json.dumps(' '.join(filter(None, [right, sent])))}"

@@ -59,7 +59,7 @@ def warned(names: list[str], count: int) -> list[str]:
     """So many warnings in one line, some of which have names; none where there is none."""
     if not count:
         return []
-    each = ["%s%s" % (name, f" ({times} times)" if times > 1 else "") for name, times in Counter(names).items()]
+    each = [f"{name} ({times} times)" if times > 1 else name for name, times in Counter(names).items()]
     others = count - len(names)
     each += [f"{others} of the scenario"] if others and each else []
     return [f"{count} warning{'' if count == 1 else 's'}, told without --brief{': ' + ', '.join(each) if each else ''}"]
@@ -181,7 +181,7 @@ def unopened(case: Case) -> list[str]:
 
 def upgraded(case: Case) -> list[str]:
     found = [f"{shown(one['to'])} ({CAUSES[one['cause']]})" for one in findings.upgrades(case)]
-    own = [notes.MAY_STAY % shown(hop.asked) for hop in case.hops if notes.is_own(case, hop)]
+    own = [notes.may_stay(shown(hop.asked)) for hop in case.hops if notes.is_own(case, hop)]
     return (["upgraded to " + ", ".join(found)] if found else []) + own
 
 
@@ -201,14 +201,16 @@ def refused_too(case: Case) -> list[str]:
     """The other enforced policies that refuse it, each once, with what to change."""
     others = [] if case.is_unloaded else [one for one in case.policies_told if one.enforced]
     found = dict.fromkeys((one.policy, one.directive) for one in others)
-    return ["policy %d refuses it too (%s)%s" % (*one, change_of_policy(case, one)) for one in found]
+    return [f"policy {policy} refuses it too ({directive}){change_of_policy(case, (policy, directive))}"
+            for policy, directive in found]
 
 
 def reported(case: Case) -> list[str]:
     """The report-only policies that it violates, each once, with what to change; of several changes of one of them a
     line `in all` tells."""
     found = dict.fromkeys((one.policy, one.directive) for one in case.fetch.of("violation") if not one.enforced)
-    return ["policy %d, which only reports, reports it (%s)%s" % (*one, change_of_policy(case, one)) for one in found]
+    return [f"policy {policy}, which only reports, reports it ({directive})"
+            f"{change_of_policy(case, (policy, directive))}" for policy, directive in found]
 
 
 def change_of_policy(case: Case, violated: tuple[int, str]) -> str:
@@ -224,7 +226,6 @@ READ, NOT_READ, WRONG, NO_ANSWER, UNDECIDED = range(5)
 OUTCOMES = ("read", "not read", "wrong words", "no answer", "no verdict")
 WORST = (WRONG, NO_ANSWER, NOT_READ, UNDECIDED, READ)
 FAILED = ("unknown-name", "refused", "unreached", "certificate", "no-tls", "hang", "reset", "tls-port")
-BROKEN = "the answer has %s: both browsers make that a network error, whatever else it says"
 PACKED = " of gzip, which the page gets packed"
 OF_NAVIGATION = " (as a fetch of the page, not the navigation it was)"
 
@@ -258,7 +259,8 @@ def verdict(cases: list[Case], was_navigation: bool = False) -> tuple[int, str]:
         return NO_ANSWER, f"{'no whole answer' if result.ending == 'fault' else 'no answer'}: {told_of(case)}"
     does = ("load it" if case.command.is_load else "read it") + (OF_NAVIGATION if was_navigation else "")
     if case.is_broken_first:
-        return NOT_READ, f"the page would not {does}: {BROKEN % case.lengths_told}; besides {told_of(case)}"
+        return NOT_READ, (f"the page would not {does}: the answer has {case.lengths_told}: both browsers make that a "
+                          f"network error, whatever else it says; besides {told_of(case)}")
     if case.verdict == "none":
         return UNDECIDED, NO_VERDICT + condition_of(case)
     if case.is_spoilt or not result.is_refused() and (case.cut_coding or result.ending == "cut"):

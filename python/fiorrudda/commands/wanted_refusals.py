@@ -118,7 +118,7 @@ def is_of_preflight(wanted: Object) -> bool:
 
 
 def lines(case: Case, wanted: Object, failed: Container[str]) -> list[str]:
-    """Of a fetch of which something failed that a test wants."""
+    """The lines for a fetch that did not do all that a test wants."""
     own = case.explanation.reasons() if case.explanation else []
     if untested(case, wanted):
         is_of_link = there(case.explanation).way.startswith("link/")
@@ -160,8 +160,8 @@ def has_preflight(case: Case) -> bool:
 
 def without_preflight(case: Case) -> str:
     is_kept = any(event.op == "covers" and event.reply == "yes" for event in case.fetch.of("call"))
-    return "let in: no preflight was sent, since %s" % (
-        "the answer to an earlier one is kept" if is_kept else "its method and its headers need none")
+    reason = "the answer to an earlier one is kept" if is_kept else "its method and its headers need none"
+    return f"let in: no preflight was sent, since {reason}"
 
 
 def all_let_in(case: Case, wanted: Object) -> Iterator[str]:
@@ -201,9 +201,9 @@ def to_change(case: Case, exchanges: Sequence[Sent], number: str) -> Iterator[st
         origin = header_of(request, "Origin") or case.page_origin
         methods = dict.fromkeys(one.method for one, _ in exchanges)
         is_reflected = case.is_net and there(there(answer).head).get(ALLOW_ORIGIN) == origin
-        yield "change: where %s asks, leave %s out of %s, or send another origin's%s" % (
-            origin, ALLOW_ORIGIN, edits.listed("the answer to " + one for one in methods),
-            GOES_ON if is_reflected else "")
+        of_answers = edits.listed(f"the answer to {one}" for one in methods)
+        yield (f"change: where {origin} asks, leave {ALLOW_ORIGIN} out of {of_answers}, or send another origin's"
+               f"{GOES_ON if is_reflected else ''}")
 
 
 def deciding(case: Case, request: Send) -> list[str]:

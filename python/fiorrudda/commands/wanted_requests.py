@@ -16,7 +16,7 @@ if TYPE_CHECKING:
     from fiorrudda.commands.case import Case
     from fiorrudda.commands.shapes import AnyRequest
 
-FORM = re.compile(r"%s(?: (?:/|https?://)\S*)?" % TOKEN.pattern)
+FORM = re.compile(rf"{TOKEN.pattern}(?: (?:/|https?://)\S*)?")
 SECRETS = ("cookie", "authorization")
 EXAMPLE = '{"request": "PUT /x", "has": {"Cookie": true}}'
 

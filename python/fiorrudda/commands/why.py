@@ -9,12 +9,12 @@
     bin/why --lints                 a list of all warnings of headers and integrity texts
 
 SCENARIO is a file, or a folder with a scenario.json; without it the scenario is read from standard input. The verdicts
-come first, a line each. Lines that begin with < are what the server answered, lines that begin with # what is to be said
-of it; without them it is the text of `bin/fetchplay`. What is wrong in a scenario that is refused is said with its line
-and column. docs/why.md tells the rest.
+come first, a line each. Lines that begin with < are what the server answered, lines that begin with # what is to be
+said of it; without them it is the text of `bin/fetchplay`. What is wrong in a scenario that is refused is said with its
+line and column. docs/why.md tells the rest.
 
-The status is 0 where the scenario was played, 1 where it is refused, 2 where the words are wrong or a file cannot be read,
-and 3 where the program fails. FETCHPLAY names another program than bin/fetchplay."""
+The status is 0 where the scenario was played, 1 where it is refused, 2 where the words are wrong or a file cannot be
+read, and 3 where the program fails. FETCHPLAY names another program than bin/fetchplay."""
 from __future__ import annotations
 
 import os
@@ -60,8 +60,9 @@ def plain_words(given: list[str]) -> Given | None:
 
 def parsed_words() -> Given:
     import argparse
-    given = argparse.ArgumentParser(prog=SELF, description="plays a scenario, and says why each fetch came to what it came",
-                                    epilog="status: 0 played, 1 the scenario is refused, 2 wrong words or files, 3 no play")
+    given = argparse.ArgumentParser(
+        prog=SELF, description="plays a scenario, and says why each fetch came to what it came",
+        epilog="status: 0 played, 1 the scenario is refused, 2 wrong words or files, 3 no play")
     given.add_argument("scenario", nargs="?", metavar="SCENARIO",
                        help="a file, or a folder with scenario.json; standard input where it is left out")
     form = given.add_mutually_exclusive_group()

@@ -104,7 +104,8 @@ def items(lines: list[str], at: int) -> tuple[Block, int]:
 
 
 def paragraph(lines: list[str], at: int) -> tuple[Block, int]:
-    text, end = taken(lines, at, lambda line: line.strip() and not ITEM.match(line) and not line.startswith(("|", ">", "#")))
+    text, end = taken(lines, at,
+                      lambda line: line.strip() and not ITEM.match(line) and not line.startswith(("|", ">", "#")))
     if not text:  # a line that begins as something else, and is not
         text, end = [lines[at]], at + 1
     return ("paragraph", spans(" ".join(line.strip() for line in text))), end

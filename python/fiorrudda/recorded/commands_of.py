@@ -98,7 +98,9 @@ def of_fetch(chain: Chain, asked: Asked) -> Command:
     options: dict[str, Any] = {"url": url_of(chain), "method": chain.first.method, "mode": asked.mode,
                                "credentials": asked.credentials}
     headers = script_headers(chain)
-    if 0 in chain.preflights and chain.first.method in guards.SAFELISTED_METHODS and not guards.unsafe_names([(name, value) for name, value in headers]):
+    is_simple = chain.first.method in guards.SAFELISTED_METHODS and not guards.unsafe_names(
+        [(name, value) for name, value in headers])
+    if 0 in chain.preflights and is_simple:
         options["upload"] = True
         asked.guesses.append("taken to have an upload listener, since nothing else asks for its preflight")
     return Command(chain, asked, {"fetch": {**options, **({"headers": headers} if headers else {})}})

@@ -221,8 +221,9 @@ class Search:
         for run in filter(None, (run.about(keys) for run in self.runs)):
             for finding, case in run.cases(self.changed(left)):
                 if id(finding) in self.passed and is_refused(case, finding):
-                    return {"entry": finding.chain.first.number, "url": finding.chain.url, "way": verdicts.way_of(there(case)),
-                            "result": there(case).result.short(), "why": there(verdicts.explanation_of(there(case))).condition}
+                    return {"entry": finding.chain.first.number, "url": finding.chain.url,
+                            "way": verdicts.way_of(there(case)), "result": there(case).result.short(),
+                            "why": there(verdicts.explanation_of(there(case))).condition}
         return None
 
     def drop(self, keys: set[Key], gone: list[Lack]) -> None:

@@ -149,7 +149,9 @@ def directive_of(case: Case, kind: str) -> str:
     refusing = next((one for one in case.violations if one.enforced), None)
     number = case.result.number
     is_by_policy = refusing is not None and (number in (4, 19) or case.is_unloaded)
-    return case.of_violation(there(refusing)).directive[0] if is_by_policy else NETWORK_ERRORS[number - 1] if number else ""
+    if is_by_policy:
+        return case.of_violation(there(refusing)).directive[0]
+    return NETWORK_ERRORS[number - 1] if number else ""
 
 
 def gone_with(found: list[dict[str, Any]], all_findings: list[Finding]) -> list[dict[str, Any]]:

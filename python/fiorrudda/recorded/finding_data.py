@@ -26,7 +26,8 @@ def data_of(finding: Finding) -> dict[str, Any]:
         "brief": "; ".join([explanation.condition, *verdicts.changes_of(there(case))]) if explanation else None,
         "redirected_to": there(case).url if explanation and there(case).is_redirected else None,
         "directive": enforced[0].directive if enforced and finding.verdict != PASSED else None,
-        "policies": [policy.data() for policy in there(case).policies_told if policy is not explanation] if violations else [],
+        "policies": [policy.data() for policy in (there(case).policies_told if violations else [])
+                     if policy is not explanation],
         "guesses": command.asked.all_guesses,
         "notes": list(dict.fromkeys(finding.notes + (case.notes if case else [])))}
 

@@ -9,8 +9,8 @@ FOLDER = "/usr/lib/python3/dist-packages"  # where Debian has them, which anothe
 
 
 def add_folders(package: str) -> None:
-    """Adds the folders of packages, and Debian's before them where they lack this one: what it needs itself is there, of
-    the version that it needs. It is the one place that does so: recordings that need no package are read without the
+    """Adds the folders of packages, and Debian's before them where they lack this one: what it needs itself is there,
+    of the version that it needs. It is the one place that does so: recordings that need no package are read without the
     time that this takes."""
     site.main()
     if util.find_spec(package) is None:

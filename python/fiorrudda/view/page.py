@@ -1,5 +1,5 @@
-"""Makes one HTML page of parts: the scripts and the style go into it, its policy lets only these run, each by its hash, and
-data goes into a block of JSON that nothing in it can end."""
+"""Makes one HTML page of parts: the scripts and the style go into it, its policy lets only these run, each by its hash,
+and data goes into a block of JSON that nothing in it can end."""
 from __future__ import annotations
 
 import base64
@@ -37,8 +37,8 @@ def hash_of(text: str) -> str:
 
 
 def policy(styles: Iterable[str], scripts: Collection[str], more: str = "", also: str = "") -> str:
-    """What a page may do: be dressed by these styles, and run these scripts, and `also` what these words allow; `more` are
-    directives beside it."""
+    """What a page may do: be dressed by these styles, and run these scripts, and `also` what these words allow; `more`
+    are directives beside it."""
     allowed = f"default-src 'none'; style-src {' '.join(map(hash_of, styles))}"
     if scripts:
         allowed += f"; script-src {' '.join([*map(hash_of, scripts), *also.split()])}"

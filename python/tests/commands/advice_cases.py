@@ -192,13 +192,14 @@ LED_ON = {
         fetch(API + "/1", **PUT), [asked(404), led("/login", 302, path="/1"), rule()]),
     "a PUT that a slash leads on": scenario(
         fetch(API + "/1", **{**JSON, "headers": JSON["headers"][:1]}, **INCLUDE), [
-            asked(204, OK, TRUE, methods("PUT"), names("content-type"), path="/1"), asked(404), led("/1/", 307, path="/1"),
-            rule(200, [OK, TRUE])]),
+            asked(204, OK, TRUE, methods("PUT"), names("content-type"), path="/1"), asked(404),
+            led("/1/", 307, path="/1"), rule(200, [OK, TRUE])]),
     "a PUT that is led to another host": scenario(
         fetch(API + "/1", **PUT, **INCLUDE), [asked(204, OK, TRUE, methods("PUT")), led(CDN + "/1", 307, OK, TRUE)],
         **at(CDN, asked(204, OK, TRUE, methods("PUT")), rule(200, [OK, TRUE]))),
     "a header that is hidden, and read": scenario(
-        [fetch(), fetch(API + "/v/${header:X-Next}")], [rule(200, [OK, ["X-Next", "3"], ["X-Page", "1"], exposed("X-Page")])]),
+        [fetch(), fetch(API + "/v/${header:X-Next}")],
+        [rule(200, [OK, ["X-Next", "3"], ["X-Page", "1"], exposed("X-Page")])]),
     "home, away with a header": scenario(
         fetch("/go", **SECRET), [led(API + "/x")], PAGE, **at(API, led("/y", path="/x"), rule())),
 }

@@ -91,14 +91,17 @@ PREFLIGHTS = {
     "preflight/status": scenario(fetch(**PUT), [rule(503, [OK])]),
     "preflight/list": scenario(fetch(**PUT), allow(["Access-Control-Allow-Methods", "GET PUT"])),
     "preflight/method-absent": scenario(fetch(**PUT), allow()),
-    "preflight/method-star-with-credentials": scenario(fetch(**PUT, **INCLUDE), allow(TRUE, ["Access-Control-Allow-Methods", "*"])),
-    "preflight/method-in-another-case": scenario(fetch(method="patch"), allow(["Access-Control-Allow-Methods", "PATCH"])),
+    "preflight/method-star-with-credentials": scenario(fetch(**PUT, **INCLUDE),
+                                                       allow(TRUE, ["Access-Control-Allow-Methods", "*"])),
+    "preflight/method-in-another-case": scenario(fetch(method="patch"),
+                                                 allow(["Access-Control-Allow-Methods", "PATCH"])),
     "preflight/method-not-listed": scenario(fetch(**PUT), allow(["Access-Control-Allow-Methods", "GET, POST"])),
     "preflight/authorization-under-star": scenario(fetch(**SECRET), allow(["Access-Control-Allow-Headers", "*"])),
     "preflight/header-of-answers": scenario(fetch(headers=[["Access-Control-Allow-Origin", "*"]]), allow()),
     "preflight/user-agent": scenario(fetch(headers=[["User-Agent", "curl/8.9"]]), allow()),
     "preflight/header-absent": scenario(fetch(**NAMED), allow()),
-    "preflight/header-star-with-credentials": scenario(fetch(**NAMED, **INCLUDE), allow(TRUE, ["Access-Control-Allow-Headers", "*"])),
+    "preflight/header-star-with-credentials": scenario(fetch(**NAMED, **INCLUDE),
+                                                       allow(TRUE, ["Access-Control-Allow-Headers", "*"])),
     "preflight/header-not-listed": scenario(fetch(**NAMED), allow(["Access-Control-Allow-Headers", "X-B"])),
 }
 UNLOADED = {
@@ -143,7 +146,8 @@ BEFORE_SENDING = {
 }
 ANSWERS = {
     "corp/same-origin": scenario(load("image"), [rule(200, [["Cross-Origin-Resource-Policy", "same-origin"]])]),
-    "corp/same-site-scheme": scenario(load("image", "https://img.shop.test/x"), [rule(200, [["Cross-Origin-Resource-Policy", "same-site"]])],
+    "corp/same-site-scheme": scenario(load("image", "https://img.shop.test/x"),
+                                      [rule(200, [["Cross-Origin-Resource-Policy", "same-site"]])],
                                       "https://img.shop.test", page="http://shop.test/"),
     "corp/same-site": scenario(load("image"), [rule(200, [["Cross-Origin-Resource-Policy", "same-site"]])]),
     "redirect/mode-error": answered(OK, ["Location", "/y"], status=302, redirect="error"),
@@ -155,14 +159,17 @@ ANSWERS = {
     "redirect/many": scenario(fetch(API + "/0"), [rule(302, [OK, ["Location", f"/{number + 1}"]], path=f"/{number}")
                                                   for number in range(22)]),
     "redirect/credentials": answered(OK, ["Location", "https://u:p@cdn.test/"], status=302),
-    "policy/response": scenario(fetch("http://h.test/x"), [rule(200, [["Access-Control-Allow-Origin", "*"]])], "https://h.test",
+    "policy/response": scenario(fetch("http://h.test/x"), [rule(200, [["Access-Control-Allow-Origin", "*"]])],
+                                "https://h.test",
                                 page="http://shop.test/", headers=[[POLICY, "connect-src http://h.test:80"]],
                                 hsts=[{"host": "h.test", "subdomains": False, "until": 10}]),
     "type/script": scenario(load("script"), [rule(200, [["Content-Type", "image/png"]])]),
     "type/nosniff-absent": scenario(load("style"), [rule(200, [["X-Content-Type-Options", "nosniff"]])]),
-    "type/nosniff": scenario(load("script"), [rule(200, [["X-Content-Type-Options", "nosniff"], ["Content-Type", "text/plain"]])]),
+    "type/nosniff": scenario(load("script"),
+                             [rule(200, [["X-Content-Type-Options", "nosniff"], ["Content-Type", "text/plain"]])]),
     "integrity/opaque": scenario(load("script", integrity="sha256-" + DIGEST["sha256"]), [rule(200, body="abc")]),
-    "integrity/opaqueredirect": scenario(fetch("/go", redirect="manual", integrity="sha256-" + DIGEST["sha256"]), JUMP, PAGE),
+    "integrity/opaqueredirect": scenario(fetch("/go", redirect="manual", integrity="sha256-" + DIGEST["sha256"]), JUMP,
+                                         PAGE),
     "integrity/no-body": answered(OK, status=204, integrity="sha256-" + DIGEST["sha256"]),
     "integrity/incomplete": answered(OK, ["Content-Length", "9"], body="abc", integrity="sha256-" + DIGEST["sha256"]),
     "integrity/toobig": scenario(fetch(integrity="sha256-" + DIGEST["sha256"]), [rule(200, [OK], "abc")], body_limit=2),
@@ -183,7 +190,8 @@ ANSWERS = {
 SAID_BYTES = [fetch("/bytes"), fetch("/${body}")]
 REQUESTS = {
     "request/long-url": scenario(fetch("/" + "x" * 8192)),
-    "request/url-bytes": (scenario(SAID_BYTES, [{"raw": "HTTP/1.1 200 OK\r\nContent-Length: 1\r\n\r\n\u00e9"}], PAGE), "fetch 1"),
+    "request/url-bytes": (scenario(SAID_BYTES, [{"raw": "HTTP/1.1 200 OK\r\nContent-Length: 1\r\n\r\n\u00e9"}], PAGE),
+                          "fetch 1"),
     "request/no-url": scenario(fetch("https://api.test:99999/x")),
     "request/url-credentials": scenario(fetch("https://u:p@api.test/x")),
     "request/bad-method": scenario(fetch(method="PU T")),
@@ -205,13 +213,15 @@ SEEN = {
     "seen/body-cut": answered(OK, ["Content-Length", "9"], body="abc"),
     "seen/body-toobig": scenario(fetch(), [rule(200, [OK], "abc")], body_limit=2),
     "seen/exposed-list": answered(OK, ["Access-Control-Expose-Headers", "X-Page X-Total"], ["X-Total", "4"]),
-    "seen/star-with-credentials": answered(OK, TRUE, ["Access-Control-Expose-Headers", "*"], ["X-Total", "4"], **INCLUDE),
+    "seen/star-with-credentials": answered(OK, TRUE, ["Access-Control-Expose-Headers", "*"], ["X-Total", "4"],
+                                           **INCLUDE),
     "seen/hidden-headers": answered(OK, ["X-Total", "4"]),
 }
 # ways that are told of other policies alone: of URLs that this engine does not load, and of those that only report
 REPORTED = {
     "policy/data-script": policed("script-src 'self'", load("script", "data:text/javascript,a")),
-    "policy/before-upgrade": scenario(load("image", "http://img.test/x"), headers=[[POLICY + "-Report-Only", "img-src https:"]]),
+    "policy/before-upgrade": scenario(load("image", "http://img.test/x"),
+                                      headers=[[POLICY + "-Report-Only", "img-src https:"]]),
 }
 # what bin/ask alone comes to, by connections of its own: commands/check_ask reaches each
 DIRECT = {"link/tls-port", "link/certificate", "link/no-tls", "body/not-its-coding", "body/coding-cut"}

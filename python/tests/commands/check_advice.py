@@ -1,12 +1,13 @@
 """Checks that what bin/why advises helps.
 
-- Each change that it names for the scenarios of cases.py and advice_cases.py is made by advice.py, and played: the fetch
-  must come further, by the order of steps in advice.py, or the policy must be violated no more.
-- Followed to the end the first change of each leads to an answer that is read within a few rounds, or to a way of UNMADE,
-  for which no table can name a change; no header of one answer, and no directive for one URL, is named twice on the way.
+- Each change that it names for the scenarios of cases.py and advice_cases.py is made by advice.py, and played: the
+  fetch must come further, by the order of steps in advice.py, or the policy must be violated no more.
+- Followed to the end the first change of each leads to an answer that is read within a few rounds, or to a way of
+  UNMADE, for which no table can name a change; no header of one answer, and no directive for one URL, is named twice on
+  the way.
 - Bad ports and mixed content are mended by what is advised once.
-- An answer with all that the lines `in all` say is read at the second run; what is named after an `or` for CORS comes as
-  far alone. `Vary: Origin` is named where its lint wants it.
+- An answer with all that the lines `in all` say is read at the second run; what is named after an `or` for CORS comes
+  as far alone. `Vary: Origin` is named where its lint wants it.
 - What a server or a policy has already is kept, no item is written twice, and no page of https is advised http.
 - What is said is what the data say. No verdict is told as such. What is dropped and what is upgraded has its note.
 - Policies with all changes of their loads let all of them pass, in the fewest words, and have no slip that is warned of
@@ -215,7 +216,8 @@ class Checks(base.Checks):
             words = edit["value"].split() if is_policy or edit.get("set") in ("url", "Location") else []
             plain = [word for word in words if word.startswith("http://") and not is_trustworthy(word)]
             told = f"{name}: http is advised to a page of https: {edit}"
-            self.compare(told, case.is_secure and [word for word in plain if word not in str(case.policies)] != [], False)
+            self.compare(told, case.is_secure and [word for word in plain if word not in str(case.policies)] != [],
+                         False)
             if is_policy:
                 self.check_kept(name, case.mended[edit["policy"]], edit, words)
             if edit["at"] in ("answer", "preflight") and str(edit.get("set")).lower() in LISTS:
@@ -240,14 +242,15 @@ class Checks(base.Checks):
         is_here = edit["url"] == case.asked_url and head is not None
         there = [fold(item) for item in items_of(head.get(edit["set"]) if is_here else "") if TOKEN.fullmatch(item)]
         self.compare(f"{name}: {edit} twice", len(items), len(set(items)))
-        gone = {"*"} if case.includes and edit["at"] == "preflight" else set()  # a cache that keeps it lets later ones pass
+        # a cache that keeps it lets later ones pass
+        gone = {"*"} if case.includes and edit["at"] == "preflight" else set()
         self.compare(f"{name}: {edit} keeps what is there", sorted(set(there) - set(items) - gone), [])
         self.compare(f"{name}: {edit}: a star, and credentials", bool(gone & set(items)), False)
         self.compare(f"{name}: {edit}: blanks alone", edit["value"] == ", ".join(items_of(edit.get("replaces"))), False)
 
     def check_whole(self, name: str, data: Data) -> Told:
-        """What the lines `in all` say, alone: then no policy is violated, and nothing of the policies that a lint has told
-        and whose right text is known is told again."""
+        """What the lines `in all` say, alone: then no policy is violated, and nothing of the policies that a lint has
+        told and whose right text is known is told again."""
         told = told_of(data)
         after = told_of(advice.made_whole(data, told))
         for case in after.cases:
@@ -263,14 +266,16 @@ class Checks(base.Checks):
             texts = {one["policy"]: one["value"] for one in said.data()["policies_in_all"]}
             self.compare(f"{name}: the policies in all", texts, wanted)
             after = self.check_whole(name, data)
-            self.compare(f"{name}: what is refused", [case.fetch.name for case in after.cases if case.result.number == 4], [])
+            self.compare(f"{name}: what is refused",
+                         [case.fetch.name for case in after.cases if case.result.number == 4], [])
             lines = [line for _, own in said.told.pieces() for line in own if line.startswith("# in all: ")]
             several = [one.line() for one in said.told.whole_policies[0] if one.is_told]
             self.compare(f"{name}: the lines of those with several changes", lines, ["# " + line for line in several])
         told = told_of(advice_cases.WHOLE["a site's loads"][0])
         form = r"in all: let policy 0 be `default-src 'self'; .*"
         for name, lines in [("above the play", verdicts.heading(told)), ("--brief", verdicts.brief(told))]:
-            self.compare(f"a policy with all its changes, {name}: {lines[-1]}", bool(re.fullmatch(form, lines[-1])), True)
+            self.compare(f"a policy with all its changes, {name}: {lines[-1]}", bool(re.fullmatch(form, lines[-1])),
+                         True)
         self.check_let_in()
         told = told_of(advice_cases.WHOLE["three policies"][0])
         several = [one.policy for one in told.whole_policies[0] if one.is_told]
@@ -304,7 +309,8 @@ class Checks(base.Checks):
         """Parts of what is said of a case, and parts that are not."""
         groups = {name: data for name, data, _ in scenarios()}
         rows = [
-            ("one name of two", "`Access-Control-Allow-Headers: content-type, authorization`", "Headers: authorization`"),
+            ("one name of two", "`Access-Control-Allow-Headers: content-type, authorization`",
+             "Headers: authorization`"),
             ("cors/no-rule", "https://shop.test`; or ask for a path that has one\n", "does not send"),
             ("no rule for OPTIONS", "# change: add a rule for this request: answer OPTIONS at", "or ask for a path"),
             ("seen/no-rule", "; or ask for a path that has one\n", None),
@@ -313,18 +319,23 @@ class Checks(base.Checks):
             ("a preflight before headers that are not exposed",
              "# in all: where the script is to see these headers too, the answer to PUT at https://api.test/x needs "
              "`Access-Control-Expose-Headers: X-Total, ETag`\n", "Date"),
-            ("a preflight before a header that is asked for", "; and since the script reads X-Next, `Access-Control-Expose-Headers: X-Next` with the answer to PUT\n", None),
-            ("a refused answer with headers", "GET at https://api.test/x needs `Access-Control-Expose-Headers: X-Page, X-Total` in place of `X-Page`", None),
+            ("a preflight before a header that is asked for",
+             "; and since the script reads X-Next, `Access-Control-Expose-Headers: X-Next` with the answer to PUT\n",
+             None),
+            ("a refused answer with headers",
+             "GET at https://api.test/x needs `Access-Control-Expose-Headers: X-Page, X-Total` in place of `X-Page`",
+             None),
             ("a refused answer that exposes all", "send `Access-Control-Allow-Origin: https://shop.test`", "Expose-"),
             ("a bare redirect to a slash", "ask for https://api.test/x/", "with the redirect"),
-            ("a bare redirect to a login that any page may read", "# why: the preflight is answered by a redirect (302) to "
-             "/login, and no redirect of a preflight is followed, whatever headers it has; a preflight never carries a "
-             "cookie or Authorization\n", "ask for"),
+            ("a bare redirect to a login that any page may read", "# why: the preflight is answered by a redirect "
+             "(302) to /login, and no redirect of a preflight is followed, whatever headers it has; a preflight never "
+             "carries a cookie or Authorization\n", "ask for"),
             ("a bare redirect to a login that any page may read",
-             "# change: let OPTIONS pass before the login is asked for: answer OPTIONS at https://api.test/x with 204, ",
+             "# change: let OPTIONS pass before the login is asked for: answer OPTIONS at https://api.test/x with "
+             "204, ",
              "look for"),
-            ("a redirect to a login, with CORS headers", "# change: let OPTIONS pass before the login is asked for: answer "
-             "OPTIONS at https://api.test/x with 204 ", "ask for h"),
+            ("a redirect to a login, with CORS headers", "# change: let OPTIONS pass before the login is asked for: "
+             "answer OPTIONS at https://api.test/x with 204 ", "ask for h"),
             ("a bare redirect to a login, of a GET",
              "; it leads to a login: look whether the cookie that this waits for is sent\n", "or ask for"),
             ("a redirect without a Location", "; look for a login, or what else redirects before OPTIONS is answered\n",
@@ -333,20 +344,24 @@ class Checks(base.Checks):
              "answer OPTIONS at https://api.test/x with 204, `Access-Control-Allow-O",
              None),
             ("an image that is upgraded", "`img-src 'self' https://img.test`", "http://img.test`"),
-            ("localhost without its scheme", "let policy 0 say `connect-src http://localhost:3000`\n", "https://localhost"),
-            ("headers of answers, and a PUT", "`Access-Control-Allow-Headers: x-a`\n", "access-control-allow-origin, x-a"),
+            ("localhost without its scheme", "let policy 0 say `connect-src http://localhost:3000`\n",
+             "https://localhost"),
+            ("headers of answers, and a PUT", "`Access-Control-Allow-Headers: x-a`\n",
+             "access-control-allow-origin, x-a"),
             ("default-src alone",
              "let policy 0 say `connect-src 'self' https://cdn.test https://api.test` beside its `default-src`", None),
             ("default-src alone: script", "let policy 0 say `script-src 'self' https://api.test`", None),
             ("a script of a data URL", "made anew for each answer; or serve the script as a file\n",
              "script-src 'self' data:"),
-            ("a page of an address", "let policy 0 say `connect-src https://cdn.test 'self'`", "give the server a name"),
+            ("a page of an address", "let policy 0 say `connect-src https://cdn.test 'self'`",
+             "give the server a name"),
             ("policy/quotes", "`self` lacks its quotes (`'self'`)", "https://shop.test"),
             ("strict-dynamic without quotes", "; then no host counts for scripts", None),
             ("none without quotes", "`none` lacks its quotes", "then no host"),
             ("a scheme without its colon", "let policy 0 say `img-src 'self' data:`", None),
             ("preflight/method-in-another-case", "use the method PATCH", "the answer to patch"),
-            ("preflight/header-of-answers", "leave `access-control-allow-origin`, a header of answers, out of the request",
+            ("preflight/header-of-answers",
+             "leave `access-control-allow-origin`, a header of answers, out of the request",
              "the answer to OPTIONS at"),
             ("preflight/user-agent",
              "# change: leave `user-agent` out of the request; or send `Access-Control-Allow-Headers: user-agent` with",
@@ -365,52 +380,58 @@ class Checks(base.Checks):
             ("a star for a request with a cookie",
              "in place of `*` and `Access-Control-Allow-Credentials: true` with the answer "
              "to PUT", None),
-            ("headers at the wrong answer", "# why: the request has credentials, and the answer to the preflight has no "
-             "Access-Control-Allow-Credentials (that to PUT has it)\n", "or ask with"),
+            ("headers at the wrong answer", "# why: the request has credentials, and the answer to the preflight has "
+             "no Access-Control-Allow-Credentials (that to PUT has it)\n", "or ask with"),
             ("cors/preflight-not-handled", "# why: the answer to the preflight is 405, without", "has it\n# header"),
             ("headers at the wrong answer",
              "`Access-Control-Allow-Headers: authorization, content-type` with the answer to "
              "OPTIONS; now that to OPTIONS has: a status of 204, Access-Control-Allow-Origin; lacks: ", None),
-            ("headers at the wrong answer", "PUT at https://api.test/x needs `Access-Control-Allow-Origin: https://shop.test`, "
-             "`Access-Control-Allow-Credentials: true`, and has that\n", None),
-            ("cors/credentials-absent", "or ask with `credentials` `same-origin`, where the server needs no cookie", None),
+            ("headers at the wrong answer", "PUT at https://api.test/x needs `Access-Control-Allow-Origin: "
+             "https://shop.test`, `Access-Control-Allow-Credentials: true`, and has that\n", None),
+            ("cors/credentials-absent", "or ask with `credentials` `same-origin`, where the server needs no cookie",
+             None),
             ("a star in three lists, and credentials",
-             "`Access-Control-Allow-Methods: PUT` in place of `*` (with credentials never send `*` here)", "Headers: *"),
-            ("a star in two lists, and credentials", "list the method in its place: send `Access-Control-Allow-Methods: "
-             "PUT` in place of `*` (with credentials never send `*` here) and `Access-Control-Allow-Headers: authorization, "
-             "content-type` in place of `*` (with", "`*` beside"),
-            ("a star and Authorization", "`Access-Control-Allow-Headers: *, authorization` in place of `*`", "never send"),
+             "`Access-Control-Allow-Methods: PUT` in place of `*` (with credentials never send `*` here)",
+             "Headers: *"),
+            ("a star in two lists, and credentials", "list the method in its place: send "
+             "`Access-Control-Allow-Methods: PUT` in place of `*` (with credentials never send `*` here) and "
+             "`Access-Control-Allow-Headers: authorization, content-type` in place of `*` (with", "`*` beside"),
+            ("a star and Authorization", "`Access-Control-Allow-Headers: *, authorization` in place of `*`",
+             "never send"),
             ("methods without blanks", "`Access-Control-Allow-Origin: https://shop.test`", "in place of `GET,PUT`"),
             ("two pages that put", "where the server trusts this origin; pages of", "Vary"),
-            ("cors/other-origin", "trusts this origin; one that trusts both sends the one that asks; and `Vary: Origin`, "
-             "where several origins ask\n", None),
+            ("cors/other-origin", "trusts this origin; one that trusts both sends the one that asks; and `Vary: "
+             "Origin`, where several origins ask\n", None),
             ("a PUT of another origin",
              "where the server trusts this origin; one that trusts both sends the one that asks\n", "Vary"),
             ("methods without blanks",
-             "OPTIONS at https://api.test/x needs a status of 200 to 299, `Access-Control-Allow-Origin: https://shop.test` in place of "
-             "`https://other.test`, `Access-Control-Allow-Methods: GET,PUT`, where the server trusts this origin; one that "
-             "trusts both sends the one that asks\n", None),
+             "OPTIONS at https://api.test/x needs a status of 200 to 299, `Access-Control-Allow-Origin: "
+             "https://shop.test` in place of `https://other.test`, `Access-Control-Allow-Methods: GET,PUT`, where the "
+             "server trusts this origin; one that trusts both sends the one that asks\n", None),
             ("methods without blanks",
-             "# in all: the answer to PUT at https://api.test/x needs `Access-Control-Allow-Origin: https://shop.test` in place of "
-             "`https://other.test`, where the server trusts this origin; one that trusts both", None),
+             "# in all: the answer to PUT at https://api.test/x needs `Access-Control-Allow-Origin: https://shop.test` "
+             "in place of `https://other.test`, where the server trusts this origin; one that trusts both", None),
             ("an origin with a slash, JSON and credentials", "in all: ", "trusts"),
             ("a star for a request with a cookie", "in all: ", "trusts"),
             ("preflight/status", "in all: ", "trusts"),
-            ("max-age=0 of a host that was not known", "# note: http://shop.test/x stays http: the Strict-Transport-Security of "
-             "shop.test said max-age=0, and that makes no known host\n", "was a known host"),
-            ("mixed content, and no CORS over https", "# change: ask for https://api.test/x; or serve the page", "OPTIONS"),
+            ("max-age=0 of a host that was not known", "# note: http://shop.test/x stays http: the "
+             "Strict-Transport-Security of shop.test said max-age=0, and that makes no known host\n",
+             "was a known host"),
+            ("mixed content, and no CORS over https", "# change: ask for https://api.test/x; or serve the page",
+             "OPTIONS"),
             ("mixed content, and no CORS over https", "# in all: the answer to GET at https://api.test/x needs "
-             "`Access-Control-Allow-Origin: https://shop.test` in place of `https://other.test`, where the server trusts "
-             "this origin; one that trusts both sends the one that asks\n", "OPTIONS"),
+             "`Access-Control-Allow-Origin: https://shop.test` in place of `https://other.test`, where the server "
+             "trusts this origin; one that trusts both sends the one that asks\n", "OPTIONS"),
             ("mixed content, and no preflight over https",
              "# in all: the answer to OPTIONS at https://api.test/x needs a status of 200 to 299, "
              "`Access-Control-Allow-Origin: https://shop.test`, `Access-Control-Allow-Methods: PUT`\n",
              "the answer to PUT"),
             ("mixed content beside a known host", "# change: ask for https://api.shop.test/x", "in all"),
-            ("mixed/ip-address", "; or give the server a name, let it answer over https under that name, and ask by it\n",
-             "change: give"),
+            ("mixed/ip-address",
+             "; or give the server a name, let it answer over https under that name, and ask by it\n", "change: give"),
             ("policy/ip-address", "; or give the server a name\n", "change: give"),
-            ("a star over Authorization, with credentials", "(preflight/header-star-with-credentials)", "does not cover"),
+            ("a star over Authorization, with credentials", "(preflight/header-star-with-credentials)",
+             "does not cover"),
             ("preflight/redirect",
              "a redirect (301) to /x/, which differs by a slash at its end alone, and no", "look for"),
             ("a parent that covers no name below it",
@@ -428,34 +449,36 @@ class Checks(base.Checks):
              "the Strict-Transport-Security of shop.test came over http, where it is ignored\n",
              None),
             ("two fields, of which the first is ignored",
-             "# note: http://shop.test/x stays http: the first Strict-Transport-Security of shop.test, which alone counts of "
-             "2, is ignored: `includeSubDomains`\n", "includeSubDomains, max-age"),
+             "# note: http://shop.test/x stays http: the first Strict-Transport-Security of shop.test, which alone "
+             "counts of 2, is ignored: `includeSubDomains`\n", "includeSubDomains, max-age"),
             ("a field with a quote that does not close, and no includeSubDomains",
-             "the Strict-Transport-Security of shop.test is ignored: `max-age=\"600`, and it has no includeSubDomains\n", None),
+             "the Strict-Transport-Security of shop.test is ignored: `max-age=\"600`, and it has no "
+             "includeSubDomains\n", None),
             ("a field with typographic quotes", "is ignored: `max-age=\u201c600\u201d`\n", None),
             ("the same, and includeSubDomains", "is ignored: `max-age=\"600; includeSubDomains`\n", None),
             ("the same of the host itself", "is ignored: `max-age=\"600`\n", None),
             ("one without includeSubDomains that came over http",
              "came over http, where it is ignored, and it has no includeSubDomains\n", None),
             ("two fields, of which the first is max-age=0",
-             "stays http: the first Strict-Transport-Security of shop.test, which alone counts of 2, said max-age=0, and that "
-             "makes no known host\n", None),
+             "stays http: the first Strict-Transport-Security of shop.test, which alone counts of 2, said max-age=0, "
+             "and that makes no known host\n", None),
             ("two fields over http, which leads to one of max-age=0",
              "stays http: the Strict-Transport-Security of shop.test said max-age=0, and that makes", None),
-            ("the same of a known host", "shop.test was a known host (HSTS) until an answer said max-age=0 in the first "
-             "Strict-Transport-Security, which alone counts of 2\n", None),
+            ("the same of a known host", "shop.test was a known host (HSTS) until an answer said max-age=0 in the "
+             "first Strict-Transport-Security, which alone counts of 2\n", None),
             ("a script of a known host at a bad port", "(port/bad)", "HSTS"),
             ("a bad port of a known host", "its host is a known one (HSTS), but bad ports are looked at first\n", None),
             ("mixed content of another origin, and a server of http alone",
-             "# in all: the answer to OPTIONS at https://api.test/x needs `Access-Control-Allow-Methods: PUT`\n# in all: the "
-             "answer to PUT at https://api.test/x needs `Access-Control-Allow-Origin: https://shop.test`\n", None),
+             "# in all: the answer to OPTIONS at https://api.test/x needs `Access-Control-Allow-Methods: PUT`\n# in "
+             "all: the answer to PUT at https://api.test/x needs `Access-Control-Allow-Origin: https://shop.test`\n",
+             None),
             ("another origin, and a server of http alone", "# in all: the answer to GET at https://api.test/x needs "
              "`Access-Control-Allow-Origin: https://shop.test`\n", "OPTIONS"),
             ("an image, and a server of http alone", "(head/no-server)", "in all"),
-            ("mixed content of another origin, and no server", "# in all: the answer to GET at https://api.test/x needs "
-             "`Access-Control-Allow-Origin: https://shop.test`\n", None),
-            ("a host beside a known one", "note: http://www.shop.test/x stays http: api.shop.test is a known host (HSTS), "
-             "and www.shop.test is neither that nor below it\n", None),
+            ("mixed content of another origin, and no server", "# in all: the answer to GET at https://api.test/x "
+             "needs `Access-Control-Allow-Origin: https://shop.test`\n", None),
+            ("a host beside a known one", "note: http://www.shop.test/x stays http: api.shop.test is a known host "
+             "(HSTS), and www.shop.test is neither that nor below it\n", None),
             ("mixed content beside a known host", "so nothing is sent to it\n", "neither"),
             ("a host that is forgotten",
              "note: http://shop.test/x stays http: shop.test was a known host (HSTS) until an answer "
@@ -463,12 +486,13 @@ class Checks(base.Checks):
             ("an answer behind a preflight",
              "# change: send `Access-Control-Allow-Origin: https://shop.test` with the answer to "
              "PUT\n", None),
-            ("a term that has ended", "www.shop.test was a known host (HSTS) until second 10, and it is second 20\n", None),
+            ("a term that has ended", "www.shop.test was a known host (HSTS) until second 10, and it is second 20\n",
+             None),
             ("mixed content beside an own URL", "by which all that it loads over http is asked for over https: "
              "http://localhost:3000/x too, which has no https server\n", "add a server"),
             ("mixed content beside an own URL over https", "is asked for over https\n", "no https server"),
-            ("mixed content beside two own URLs", "http://localhost:3000/x and http://127.0.0.1/y too, which have no https "
-             "server\n", None),
+            ("mixed content beside two own URLs", "http://localhost:3000/x and http://127.0.0.1/y too, which have no "
+             "https server\n", None),
             ("mixed content beside an own URL that is refused", "is asked for over https\n", "no https server"),
             ("a known host, and mixed content",
              "so nothing is sent to it; its host is a known one (HSTS), but mixed content is "
@@ -479,11 +503,12 @@ class Checks(base.Checks):
             ("a host that is known again, below a known one",
              "http://www.shop.test/x became https://www.shop.test/x: its host is a known one (HSTS)\n", "which covers"),
             ("a host below a known one, and mixed content",
-             "so nothing is sent to it; shop.test is a known host (HSTS) with its subdomains, which covers www.shop.test, but "
-             "mixed content is looked at first\n", "HSTS does not help"),
+             "so nothing is sent to it; shop.test is a known host (HSTS) with its subdomains, which covers "
+             "www.shop.test, but mixed content is looked at first\n", "HSTS does not help"),
             ("a page below a known host, mode same-origin",
-             "# why: shop.test is a known host (HSTS) with its subdomains, which covers www.shop.test, so the URL becomes "
-             "https, which is another origin than http://www.shop.test; and the mode is same-origin\n", "its host is"),
+             "# why: shop.test is a known host (HSTS) with its subdomains, which covers www.shop.test, so the URL "
+             "becomes https, which is another origin than http://www.shop.test; and the mode is same-origin\n",
+             "its host is"),
             ("mixed/page",
              "; or serve the page with `Content-Security-Policy: upgrade-insecure-requests`, by which all that "
              "it loads over http is asked for over https, and add a server https://api.test\n", "known"),
@@ -502,46 +527,50 @@ class Checks(base.Checks):
             ("same-origin/known-host", "became https://shop.test/x: its host is a known one (HSTS)", None),
             ("mixed/page", "# change: ask for https://api.test/x", "HSTS"),
             ("two that lead to each other", "leads back to https://api.test/x: such a chain has no end", "ask for"),
-            ("preflights that lead to each other", "# change: answer OPTIONS at https://api.test/x with 204", "ask for"),
+            ("preflights that lead to each other", "# change: answer OPTIONS at https://api.test/x with 204",
+             "ask for"),
             ("a POST that leads to itself as a GET", "(cors/absent-on-redirect)", "no end"),
-            ("a report of what is upgraded", "; or let policy 0 say `img-src https://img.test http://img.test`, which it needs while it only "
-             "reports: without `http://img.test` once it is enforced, and the page itself has the https URL, since "
-             "Firefox asks it about the http one\n", None),
-            ("policy/path", "let policy 0 say `connect-src https://api.test/UI/ https://api.test/ui/3.2/`", "no word of it"),
-            ("mixed content of a host that was known", "; api.test was a known host (HSTS) until second 10, and it is second "
-             "20; HSTS does not help, since known hosts are looked up after", None),
+            ("a report of what is upgraded", "; or let policy 0 say `img-src https://img.test http://img.test`, which "
+             "it needs while it only reports: without `http://img.test` once it is enforced, and the page itself has the "
+             "https URL, since Firefox asks it about the http one\n", None),
+            ("policy/path", "let policy 0 say `connect-src https://api.test/UI/ https://api.test/ui/3.2/`",
+             "no word of it"),
+            ("mixed content of a host that was known", "; api.test was a known host (HSTS) until second 10, and it is "
+             "second 20; HSTS does not help, since known hosts are looked up after", None),
             ("no-verdict/data", "the page's policies do not let it: policy 0 has `img-src 'self'`", None),
             ("a data URL that nothing hinders", "and the page has no policy", None),
             ("no-verdict/websocket", "and the page's policies let it", None),
-            ("a WebSocket that is upgraded", "# note: ws://api.test/x became wss://api.test/x: a policy of the page has "
-             "`upgrade-insecure-requests`\n# why: no verdict: this engine opens no WebSocket; a browser would, by `new "
-             "WebSocket`, and the page's policies let it\n# change: nothing is", "no browser opens"),
+            ("a WebSocket that is upgraded", "# note: ws://api.test/x became wss://api.test/x: a policy of the page "
+             "has `upgrade-insecure-requests`\n# why: no verdict: this engine opens no WebSocket; a browser would, by "
+             "`new WebSocket`, and the page's policies let it\n# change: nothing is", "no browser opens"),
             ("a WebSocket that is upgraded, and refused", "no word of it matches wss://api.test:8000/x\n",
              "no browser opens"),
-            ("a WebSocket of this machine that is upgraded", "became wss://localhost:8000/x: a policy", "may stay http"),
+            ("a WebSocket of this machine that is upgraded", "became wss://localhost:8000/x: a policy",
+             "may stay http"),
             ("a report of a WebSocket that is upgraded", "has `connect-src wss://api.test`, and no word of it matches "
              "ws://api.test/x: a policy that only reports is asked before", "policy 0 has"),
-            ("a report of a WebSocket that is mixed content", "policy 1 (report-only) has `connect-src wss://api.test`, "
-             "and no word of it matches ws://api.test/x", "policy 0 has"),
+            ("a report of a WebSocket that is mixed content", "policy 1 (report-only) has `connect-src "
+             "wss://api.test`, and no word of it matches ws://api.test/x", "policy 0 has"),
             ("a WebSocket under a report of upgrades", "no browser opens this WebSocket", "became"),
             ("a file", "a browser refuses it too", None),
-            ("Authorization that is led on", "# in all: the answer to GET at https://api.test/1, which redirects (307) to /2, "
-             "needs `Access-Control-Allow-Origin: https://shop.test`\n# in all: the answer to OPTIONS at https://api.test/2 "
-             "needs a status of 200 to 299, `Access-Control-Allow-Origin: https://shop.test`, "
+            ("Authorization that is led on", "# in all: the answer to GET at https://api.test/1, which redirects (307) "
+             "to /2, needs `Access-Control-Allow-Origin: https://shop.test`\n# in all: the answer to OPTIONS at "
+             "https://api.test/2 needs a status of 200 to 299, `Access-Control-Allow-Origin: https://shop.test`, "
              "`Access-Control-Allow-Headers: authorization`\n# in all: the answer to GET at https://api.test/2 needs "
              "`Access-Control-Allow-Origin: https://shop.test`\n", "Origin: null"),
             ("Authorization that is led on", "# change: answer OPTIONS at https://api.test/1 with 204, ", "null"),
-            ("a redirect behind its preflight", "# change: send `Access-Control-Allow-Origin: https://shop.test` with the "
-             "answer to PUT at https://api.test/1; or ask for https://api.test/2, and answer OPTIONS at https://api.test/2 "
-             "with 204, ", None),
-            ("a redirect behind its preflight", "# in all: the answer to OPTIONS at https://api.test/2 needs a status of 200 "
-             "to 299, `Access-Control-Allow-Origin: https://shop.test`, `Access-Control-Allow-Methods: PUT`, "
+            ("a redirect behind its preflight", "# change: send `Access-Control-Allow-Origin: https://shop.test` with "
+             "the answer to PUT at https://api.test/1; or ask for https://api.test/2, and answer OPTIONS at "
+             "https://api.test/2 with 204, ", None),
+            ("a redirect behind its preflight", "# in all: the answer to OPTIONS at https://api.test/2 needs a status "
+             "of 200 to 299, `Access-Control-Allow-Origin: https://shop.test`, `Access-Control-Allow-Methods: PUT`, "
              "`Access-Control-Allow-Headers: content-type`\n", None),
             ("a header that is led away", "# in all: the answer to OPTIONS at https://cdn.test/2, which is asked with "
              "`Origin: null`, needs a status of 200 to 299, `Access-Control-Allow-Origin: *`, "
-             "`Access-Control-Allow-Headers: x-a`\n", "authorization, x-a`\n# in all: the answer to GET at https://cdn"),
-            ("a cookie that is led away", "# in all: the redirect to https://cdn.test/2 leads from one foreign origin to "
-             "another, so the request says `Origin: null`, which no server should allow: let the page ask for "
+             "`Access-Control-Allow-Headers: x-a`\n",
+             "authorization, x-a`\n# in all: the answer to GET at https://cdn"),
+            ("a cookie that is led away", "# in all: the redirect to https://cdn.test/2 leads from one foreign origin "
+             "to another, so the request says `Origin: null`, which no server should allow: let the page ask for "
              "https://cdn.test/2 itself, or redirect within one origin\n# in all: then the answer to GET at "
              "https://cdn.test/2 needs `Access-Control-Allow-Origin: https://shop.test`, "
              "`Access-Control-Allow-Credentials: true`\n", "Allow-Origin: null"),
@@ -565,12 +594,14 @@ class Checks(base.Checks):
             ("a script beside inline ones",
              "# change: let policy 0 say `script-src 'unsafe-inline' https://api.test`\n", "nonce"),
             ("default-src alone: font", "`font-src 'self' https://api.test`", "nonce"),
-            ("a PUT that a slash leads on", "; or ask for https://api.test/1/, and answer OPTIONS at https://api.test/1/ with "
-             "204, `Access-Control-Allow-Origin: https://shop.test`", None),
-            ("a PUT that is led to another host", "# change: ask for https://cdn.test/1; or redirect within one origin\n", None),
-            ("a header that is hidden, and read", "# why: the script does not see these headers of the answer: X-Next, and it "
-             "reads X-Next\n", None),
-            ("a JSON POST that becomes a GET", "# in all: the answer to GET at https://api.test/2 needs", "OPTIONS at https://api.test/2"),
+            ("a PUT that a slash leads on", "; or ask for https://api.test/1/, and answer OPTIONS at "
+             "https://api.test/1/ with 204, `Access-Control-Allow-Origin: https://shop.test`", None),
+            ("a PUT that is led to another host",
+             "# change: ask for https://cdn.test/1; or redirect within one origin\n", None),
+            ("a header that is hidden, and read", "# why: the script does not see these headers of the answer: X-Next, "
+             "and it reads X-Next\n", None),
+            ("a JSON POST that becomes a GET", "# in all: the answer to GET at https://api.test/2 needs",
+             "OPTIONS at https://api.test/2"),
             ("a chain of three", "# in all: the answer to PUT at https://api.test/3 needs", None),
             ("a chain of three, with a header at its end", "; and where the script is to see these headers, "
              "`Access-Control-Expose-Headers: X-Page, X-Total` in place of `X-Page` with the answer to PUT at "
@@ -579,10 +610,12 @@ class Checks(base.Checks):
              "https://api.test/2: a secure page asks for nothing over http\n", None),
             ("a redirect that a policy refuses", "# in all: policy 0 does not let https://cdn.test/2 pass, where the "
              "redirect leads: let policy 0 say `connect-src https://api.test https://cdn.test`; the path", None),
-            ("a redirect with a user's name", "is to lead to https://api.test/2, without a user name and a password\n", None),
+            ("a redirect with a user's name", "is to lead to https://api.test/2, without a user name and a password\n",
+             None),
             ("a preflight, and a redirect to a login", ", which redirects (302) to /login, needs `Access-",
              "OPTIONS at https://api.test/login"),
-            ("a refused answer with headers", "`Access-Control-Expose-Headers: X-Page, X-Total` in place of `X-Page`\n", None),
+            ("a refused answer with headers", "`Access-Control-Expose-Headers: X-Page, X-Total` in place of `X-Page`\n",
+             None),
             ("a policy and a header", "# in all: the answer to OPTIONS at https://api.test/x needs a status of 200 to "
              "299, `Access-Control-Allow-Origin: https://shop.test`, `Access-Control-Allow-Credentials: true`, "
              "`Access-Control-Allow-Methods: PUT`, `Access-Control-Allow-Headers: authorization, content-type`\n"
@@ -609,8 +642,8 @@ class Checks(base.Checks):
             self.compare(f"{name}: {other} not in {text}", other is not None and other in text, False)
 
     def test_targets(self) -> None:
-        """The page asks first for where a preflight is led, where that is likely the same resource; else OPTIONS is to be
-        answered, and of a login nothing is asked for."""
+        """The page asks first for where a preflight is led, where that is likely the same resource; else OPTIONS is to
+        be answered, and of a login nothing is asked for."""
         asked = "http://api.test/orders/7?a=1"
         rows = [
             ("https://api.test/orders/7?a=1", "itself", "differs by its scheme alone"),
@@ -644,7 +677,8 @@ class Checks(base.Checks):
         self.compare(f"{text}: the redirect's URL is asked for", "ask for h" in text, wanted != "login")
 
     def test_slips(self) -> None:
-        """A change of a policy with a slip mends that too: nothing is warned of where it is made, and --brief says it."""
+        """A change of a policy with a slip mends that too: nothing is warned of where it is made, and --brief says
+        it."""
         for text, command, wanted, part in advice_cases.SLIPS:
             data = cases.policed(text, command)
             told = told_of(data)
@@ -672,7 +706,8 @@ class Checks(base.Checks):
         words = " ".join(f"https://a{number}.test" for number in range(100))
         self.compare("a long directive", edits.shortened(words), words)
         told = edits.phrase([edits.policy(0, "img-src", ["*"], before="img-scr " + words)])
-        self.compare("a long directive that is replaced", told, f"let policy 0 say `img-src *` in place of `img-scr {words}`")
+        self.compare("a long directive that is replaced", told,
+                     f"let policy 0 say `img-src *` in place of `img-scr {words}`")
         told = edits.told({"set": "Vary", "value": "Origin", "replaces": "x" * 100})
         self.compare("a long value that is replaced", told, f"`Vary: Origin` in place of `{'x' * 80}..`")
 
@@ -696,21 +731,28 @@ class Checks(base.Checks):
             ("Range", "bytes=0-", "no-cors", "in mode no-cors"),
         ]
         for name, value, mode, part in rows:
-            case = case_of(cases.scenario(cases.fetch(mode=mode, headers=[[name, value]]), [cases.rule(200, [cases.OK])]))
+            case = case_of(cases.scenario(cases.fetch(mode=mode, headers=[[name, value]]),
+                                          [cases.rule(200, [cases.OK])]))
             told = "; ".join(case.notes)
-            self.compare(f"the note on {name}: {value} in mode {mode}: {told}", part in told if part else told == "", True)
+            self.compare(f"the note on {name}: {value} in mode {mode}: {told}", part in told if part else told == "",
+                         True)
             asked = case.asked_headers if case.request else ""
             kept = guards.kept([(name, value)], mode)
-            is_sent = name.lower() in asked or value in [own for request, _ in case.chain for own in values_of(request, name)]
+            is_sent = name.lower() in asked or value in [own for request, _ in case.chain
+                                                         for own in values_of(request, name)]
             self.compare(f"{name}: {value} in mode {mode} is kept", bool(kept), is_sent)
             self.compare(f"{name}: {value} asks for a preflight", guards.unsafe_names(kept), [asked] if asked else [])
 
     def test_local_networks(self) -> None:
-        """A public page's first request to this machine or a local network is told (Local Network Access, section 2)."""
+        """A public page's first request to this machine or a local network is told (Local Network Access, section
+        2)."""
         rows = [
-            ("https://shop.test/", "http://127.0.0.1:8000/x", "127.0.0.1"), ("https://shop.test/", "http://localhost/x", "localhost"),
-            ("http://shop.test/", "http://192.168.0.1/x", "192.168.0.1"), ("http://203.0.113.5/", "http://10.0.0.1/x", "10.0.0.1"),
-            ("http://shop.test/", "http://[fd00::1]/x", "fd00::1"), ("https://shop.test/", "https://printer.local/x", "printer.local"),
+            ("https://shop.test/", "http://127.0.0.1:8000/x", "127.0.0.1"),
+            ("https://shop.test/", "http://localhost/x", "localhost"),
+            ("http://shop.test/", "http://192.168.0.1/x", "192.168.0.1"),
+            ("http://203.0.113.5/", "http://10.0.0.1/x", "10.0.0.1"),
+            ("http://shop.test/", "http://[fd00::1]/x", "fd00::1"),
+            ("https://shop.test/", "https://printer.local/x", "printer.local"),
             ("http://shop.test/", "http://172.32.0.1/x", None), ("http://shop.test/", "http://203.0.113.5/x", None),
             ("http://10.0.0.2/", "http://192.168.0.1/x", None), ("http://localhost/", "http://127.0.0.1/x", None),
             ("https://shop.test/", "http://192.168.0.1/x", None),  # which is mixed content, and not sent
@@ -726,7 +768,8 @@ class Checks(base.Checks):
         headers = [[name, "1"] for name in ("Sec-A", "Origin", "Sec-B", "Cookie")]
         notes = case_of(cases.scenario(cases.fetch(headers=headers), [cases.rule(200, [cases.OK])])).notes
         form = r"dropped, [^`]*: `Cookie` \(.*\); `Sec-A`, `Sec-B` \(.*\); `Origin` \(.*\)"
-        self.compare(f"four headers that are dropped: {notes}", [bool(re.fullmatch(form, note)) for note in notes], [True])
+        self.compare(f"four headers that are dropped: {notes}", [bool(re.fullmatch(form, note)) for note in notes],
+                     [True])
 
     def test_verdicts(self) -> None:
         rows = [("a WebSocket that is upgraded", "none"), ("a WebSocket of an http page that is upgraded", "none"),
@@ -739,7 +782,8 @@ class Checks(base.Checks):
         for name, verdict in rows:
             told = told_of(groups[name])
             self.compare("the verdict of " + name, told.data()[0]["verdict"], verdict)
-            self.compare("no-verdict, of " + name, results.is_met("no-verdict", told.cases[0].result), verdict == "none")
+            self.compare("no-verdict, of " + name, results.is_met("no-verdict", told.cases[0].result),
+                         verdict == "none")
             self.compare("refused, of " + name, results.is_met("refused", told.cases[0].result), verdict == "refused")
         data = told_of(groups["two policies, and one that reports"]).data()[0]
         self.compare("policies in JSON", [(one["policy"], one["enforced"], one["way"]) for one in data["policies"]],
@@ -748,7 +792,8 @@ class Checks(base.Checks):
         self.compare("edits in JSON", data["why"]["edits"], [edit])
         told = told_of(groups["a data URL that nothing hinders"])
         self.compare("bin/expect: no-verdict", list(expectations.differences({"load 0": "no-verdict"}, told, [])), [])
-        self.compare("bin/expect: refused", len(list(expectations.differences({"load 0": "refused"}, told, []))) > 0, True)
+        self.compare("bin/expect: refused", len(list(expectations.differences({"load 0": "refused"}, told, []))) > 0,
+                     True)
         self.compare("the word no-verdict", results.unknown_word("no-verdict"), None)
 
     # ---- what is computed here, and by the engine
@@ -765,7 +810,8 @@ class Checks(base.Checks):
     def test_test_asks(self) -> None:
         """What a test wants the script to see is among what is to be exposed."""
         data = cases.scenario(cases.fetch(**cases.PUT), [cases.rule(404)])
-        told = list(expectations.differences({"fetch 0": {"result": "read", "sees": {"X-Total": "4"}}}, told_of(data), []))
+        told = list(expectations.differences({"fetch 0": {"result": "read", "sees": {"X-Total": "4"}}}, told_of(data),
+                                             []))
         is_said = any("`Access-Control-Expose-Headers: X-Total`" in line for line in told)
         self.compare(f"a header that a test wants: {told}", is_said, True)
 
@@ -778,8 +824,8 @@ class Checks(base.Checks):
             case = case_of(data)
             after = advice.made(data, case, advice.advised(case))
             without = advice.made(data, case, [edit for edit in advice.advised(case) if edit["set"] != "Vary"])
-            self.compare(f"Vary, of {name}: what the lints say with it and without", [lints_in(after), lints_in(without)],
-                         [set(), {"cors/vary-missing"} if wanted else set()])
+            self.compare(f"Vary, of {name}: what the lints say with it and without",
+                         [lints_in(after), lints_in(without)], [set(), {"cors/vary-missing"} if wanted else set()])
             self.compare(f"Vary, of {name}: is named", after != without, wanted)
 
     def test_matcher(self) -> None:
@@ -819,8 +865,8 @@ class Checks(base.Checks):
 
     def test_advice_to_its_end(self) -> None:
         played = side_by_side(self.follow, scenarios())
-        self.counted(f"{len(played)} scenarios, whose advice was followed to its end; {sum(played)} changes, each of which "
-                     "helped")
+        self.counted(f"{len(played)} scenarios, whose advice was followed to its end; {sum(played)} changes, each of "
+                     "which helped")
 
     def test_first_screens(self) -> None:
         side_by_side(self.check_first_screen, scenarios())

@@ -1,16 +1,19 @@
 """Checks bin/ask against servers on the loopback, over TCP and TLS with a certificate that is made for the check.
 
-- Each way of the table that words can ask for: the scenario that is meant for it is asked of a real server that answers by its
-  rules, over TLS where its origin says https. The lines are those of the scenario's play, and the way is the same.
-- What is no connection: a closed port, an unknown name, a hang, a reset, each also behind a head, a handshake that does not come,
-  a certificate that nobody trusts, a port that speaks no TLS; and a TLS port that is asked in plain, as several servers answer it.
+- Each way of the table that words can ask for: the scenario that is meant for it is asked of a real server that answers
+  by its rules, over TLS where its origin says https. The lines are those of the scenario's play, and the way is the
+  same.
+- What is no connection: a closed port, an unknown name, a hang, a reset, each also behind a head, a handshake that does
+  not come, a certificate that nobody trusts, a port that speaks no TLS; and a TLS port that is asked in plain, as
+  several servers answer it.
 - Bodies that come as gzip, deflate and br all the same, whole, cut and as a bomb; the time limit, whatever Python does.
-- --twice, --book, --export (the scenario plays the same, without secrets, and over no other file), --json, --brief, --hsts, several
-  URLs, a body of a file, the statuses, what is said of cookies, words that are wrong, --help and a closed pipe.
+- --twice, --book, --export (the scenario plays the same, without secrets, and over no other file), --json, --brief,
+  --hsts, several URLs, a body of a file, the statuses, what is said of cookies, words that are wrong, --help and a
+  closed pipe.
 - Commands that browsers copied as cURL, as a shell reads them.
 
-It needs python3 (3.9 or later), the openssl command, bin/fetchplay, and the library that FIORRUDDA_LIBRARY names or bin/lib
-has left in out/."""
+It needs python3 (3.9 or later), the openssl command, bin/fetchplay, and the library that FIORRUDDA_LIBRARY names or
+bin/lib has left in out/."""
 from __future__ import annotations
 
 import argparse
@@ -103,8 +106,10 @@ def plain(request: loopback.Request) -> bytes:
 # An answer whose body does not come whole, and what ports that speak TLS answer to a request in plain.
 BEGUN = b"HTTP/1.1 200 OK\r\nAccess-Control-Allow-Origin: *\r\nContent-Length: 9\r\n\r\nhi"
 TLS_PORTS = {
-    "nginx": b"HTTP/1.1 400 Bad Request\r\nServer: nginx\r\n\r\n<center>The plain HTTP request was sent to HTTPS port</center>",
-    "Apache": b"HTTP/1.1 400 Bad Request\r\n\r\nReason: You're speaking plain HTTP to an SSL-enabled server port.<br />\n",
+    "nginx": b"HTTP/1.1 400 Bad Request\r\nServer: nginx\r\n\r\n<center>The plain HTTP request was sent to HTTPS "
+             b"port</center>",
+    "Apache": b"HTTP/1.1 400 Bad Request\r\n\r\nReason: You're speaking plain HTTP to an SSL-enabled server port.<br "
+              b"/>\n",
     "Go": b"HTTP/1.0 400 Bad Request\r\n\r\nClient sent an HTTP request to an HTTPS server.\n",
     "Tomcat": b"HTTP/1.1 400 \r\n\r\nBad Request\r\nThis combination of host and port requires TLS.\r\n",
     "an alert": b"\x15\x03\x01\x00\x02\x02\x46",
@@ -133,24 +138,29 @@ VERDICTS = {
     "another length": "the page would not read all of it", "two lengths": "the page would not read it",
 }
 STRAY = [
-    ("-H authorization: Bearer eyJ.e30.abc", "`Bearer` is no URL; are the quotes of the header `authorization:` missing?"),
+    ("-H authorization: Bearer eyJ.e30.abc",
+     "`Bearer` is no URL; are the quotes of the header `authorization:` missing?"),
     ("-H authorization: eyJ.e30.abc", "what stands behind the header `authorization:` is no URL; are the quotes"),
     ("-Hauthorization: eyJ.e30.abc", "what stands behind the header `authorization:` is no URL; are the quotes"),
     ("--header=authorization: eyJ.e30.abc", "what stands behind the header `authorization:` is no URL; are the quotes"),
     ("-H x-note: /eyJ", "behind the header `x-note:` is no URL"),
     ('-H "sec-ch-ua: "A B";v="1""', "behind the header `sec-ch-ua:` is no URL"),
-    ("-H referer: https://eyJ.example/", "a URL stands behind the header `referer:`: are the quotes of the header missing?"),
+    ("-H referer: https://eyJ.example/",
+     "a URL stands behind the header `referer:`: are the quotes of the header missing?"),
     ("-d {a: eyJ}", "what stands behind the value of -d is no URL; are the quotes"),
     ("-k api.test/x", "`api.test/x` is no URL: write it whole"),
-    ("/x", "the header `origin:` is no URL; are the quotes of the header missing? If it is meant as a URL, write it whole"),
+    ("/x", "the header `origin:` is no URL; are the quotes of the header missing? If it is meant as a URL, write it "
+           "whole"),
     ("-k localhost:8080/x", "`localhost:8080/x` is no URL: write it whole"),
-    ('-H "authorization: "Bearer eyJ/abc=""', "what stands behind the header `authorization:` is no URL; are the quotes"),
+    ('-H "authorization: "Bearer eyJ/abc=""',
+     "what stands behind the header `authorization:` is no URL; are the quotes"),
     ("''", "the word of a URL is empty"),
     ("\\ ", "take the blank behind the \\ at a line's end away"),
     ("^", "copied for cmd: copy as cURL (bash)"),
     ("-H \u2018authorization: Bearer eyJ\u2019", "\u2018 and \u2019 are no quotes of a shell: write '"),
     ("\u201chttps://api.test/\u201d", '\u201c and \u201d are no quotes of a shell: write "'),
-    ("-H '\"authorization: Bearer eyJ\"'", 'the header `"authorization` has a quote in its name: take the inner quotes away'),
+    ("-H '\"authorization: Bearer eyJ\"'",
+     'the header `"authorization` has a quote in its name: take the inner quotes away'),
     ("-H \"'origin: https://eyJ.test'\"", "the header `'origin` has a quote in its name: take the inner quotes away"),
     ("-H 'authorization Bearer eyJ'", "the header `authorization` has no colon: write it as 'authorization: value'"),
     ("-H eyJ.e30.abc", "a header has no colon: write it as 'Name: value'"),
@@ -181,8 +191,10 @@ FIRST_WORDS = [
     (["Invoke-WebRequest", "-Uri", "https://api.test:8443/x", "-Headers", "@{"], "copied for another program"),
     (["=", "New-Object", "Microsoft.PowerShell.Commands.WebRequestSession"], "copied for another program"),
     (["curl", "https://api.test:8443/x", "--data-raw", '{^"a^":1}'], "copied for cmd: copy as cURL (bash)"),
-    (["api.test/x", "--from", "https://app.example/"], "`api.test` has no scheme: write https://api.test; what is a path"),
-    (["\"https://api.test:8443/x\"", "--from", "https://app.example/"], "a quote or a bracket stands around https://api."),
+    (["api.test/x", "--from", "https://app.example/"],
+     "`api.test` has no scheme: write https://api.test; what is a path"),
+    (["\"https://api.test:8443/x\"", "--from", "https://app.example/"],
+     "a quote or a bracket stands around https://api."),
     (["https://api.test:8443/x'", "--from", "https://app.example/"], "a quote or a bracket stands around https://api."),
     (["https//api.test/x", "--from", "https://app.example/"], "`https//` is no beginning of a URL: write https://"),
     (["www.api.example", "--from", "https://app.example/"], "`www.api.example` has no scheme: write https://www.api."),
@@ -192,7 +204,8 @@ FIRST_WORDS = [
 
 
 def ran(*words: str, **more: Any) -> subprocess.CompletedProcess[bytes]:
-    return subprocess.run([os.path.join(ROOT, "bin", "ask"), *words], stdout=subprocess.PIPE, stderr=subprocess.PIPE, **more)
+    return subprocess.run([os.path.join(ROOT, "bin", "ask"), *words], stdout=subprocess.PIPE, stderr=subprocess.PIPE,
+                          **more)
 
 
 def allowed(request: loopback.Request) -> bytes:
@@ -250,8 +263,8 @@ def whole_bodies() -> dict[str, bytes]:
 
 
 def stored(data: bytes) -> bytes:
-    """A br stream (RFC 7932, section 9.2): a window of 16 bits, a meta-block that is not compressed, and the last, empty
-    one."""
+    """A br stream (RFC 7932, section 9.2): a window of 16 bits, a meta-block that is not compressed, and the last,
+    empty one."""
     return (len(data) - 1 << 4 | 1 << 20).to_bytes(3, "little") + data + b"\x03"
 
 
@@ -271,7 +284,8 @@ def told_of(answer: Union[Said, Answering], **more: Any) -> tuple[int, Any, str,
                            page="http://shop.test/", **more)
     case = answered.told.cases[-1]
     lines = case.explanation.lines() if case.explanation else []
-    return answered.status(), case.result.body, way_of(answered), "\n".join([answered.verdict[1], *lines, *answered.notes()])
+    return answered.status(), case.result.body, way_of(answered), "\n".join([answered.verdict[1], *lines,
+                                                                             *answered.notes()])
 
 
 def flipped(data: bytes, at: int) -> bytes:
@@ -445,7 +459,8 @@ class Checks(base.Checks):
         count = 0
         for name, text, which in cases.scripted():
             data = json.loads(text)
-            words = None if which or name in NOT_ASKED or "Content-Encoding" in text else words_of(data)  # that is decoded here
+            # that is decoded here
+            words = None if which or name in NOT_ASKED or "Content-Encoding" in text else words_of(data)
             if words is None:
                 continue
             scenario = Scenario(json_text.read(text))
@@ -477,7 +492,8 @@ class Checks(base.Checks):
                 answered = answered_by(lambda request: said, None, "http://api.test/x", page=page)
                 self.compare(f"a TLS port asked in plain, by {page}, answered as {name} does",
                              (way_of(answered), answered.status()), ("link/tls-port", 3))
-        answered = answered_by(lambda request: b"HTTP/1.1 400 No\r\n\r\nno id; see https://api.test/help", None, "http://api.test/x")
+        answered = answered_by(lambda request: b"HTTP/1.1 400 No\r\n\r\nno id; see https://api.test/help", None,
+                               "http://api.test/x")
         self.compare("a 400 of another kind", (way_of(answered), answered.status()), ("basic 400", 0))
         with socket.create_server(("127.0.0.1", 0)) as listener:  # it takes connections, and says nothing
             mute = {("api.test", 443): listener.getsockname()}
@@ -492,12 +508,14 @@ class Checks(base.Checks):
     def check_unconnected(self, port: int) -> None:
         """A port at which nobody listens, by the URL and by --connect-to, and an unknown name."""
         own, closed = {("api.test", 443): ("127.0.0.1", port)}, f"127.0.0.1:{port}"
-        for name, url, address in [("link/refused", f"http://{closed}/x", closed), ("link/refused", "https://api.test/x", closed),
+        for name, url, address in [("link/refused", f"http://{closed}/x", closed),
+                                   ("link/refused", "https://api.test/x", closed),
                                    ("link/unknown-name", "http://no-such-name.invalid/x", "no-such-name.invalid:80")]:
             answered = asked_of(url, connect_to=own)
             self.compare(name, (way_of(answered), answered.status()), (name, 3))
             lines = " ".join(answered.told.cases[-1].explanation.lines())
-            self.compare(name + ": the address that was tried, and no route: " + lines, (address in lines, "route" in lines), (True, False))
+            self.compare(name + ": the address that was tried, and no route: " + lines,
+                         (address in lines, "route" in lines), (True, False))
 
     def check_statuses(self, pair: Pair) -> None:
         """0 is for what the page would read, and for nothing else."""
@@ -505,7 +523,8 @@ class Checks(base.Checks):
         long = b"HTTP/1.1 200 OK\r\nAccess-Control-Allow-Origin: *\r\n\r\n" + b"a" * (asked.LIMIT + 1)
         rows = [
             ("an image", plain, dict(load="image"), "loaded", 0),
-            ("a redirect to another origin", lambda request: jump if request.target == "/x" else plain(request), {}, "cors 200", 0),
+            ("a redirect to another origin", lambda request: jump if request.target == "/x" else plain(request), {},
+             "cors 200", 0),
             ("a body that is longer than is read here", lambda request: long, {}, "seen/body-toobig", 0),
             ("an opaque response", plain, dict(mode="no-cors"), "seen/opaque", 1),
             ("an opaque redirect", lambda request: jump, dict(redirect="manual"), "seen/opaqueredirect", 1),
@@ -526,7 +545,8 @@ class Checks(base.Checks):
             ("to the same site", dict(page="https://www.api.test/", credentials="include"), None),
             ("to the page's own origin", dict(page="https://api.test/"), None),
             ("kept back", dict(page="https://api.test/", credentials="omit"), "--credentials omit"),
-            ("as Set-Cookie has it", dict(page="https://api.test/", cookie=["a=1; HttpOnly"]), "`HttpOnly` is an attribute of"),
+            ("as Set-Cookie has it", dict(page="https://api.test/", cookie=["a=1; HttpOnly"]),
+             "`HttpOnly` is an attribute of"),
             ("with a preflight that fails", dict(page="https://www.api.test/", credentials="include", method="PUT"),
              "no cookie was sent, since only a preflight was sent"),
             ("with one of another site", dict(page="https://shop.test/", credentials="include", method="PUT"),
@@ -594,15 +614,17 @@ class Checks(base.Checks):
         read = f"the page would read it: 200, {len(TEXT)} bytes"
         rows = [
             ("what is read", plain(None), {}, ["the page would read it: 200, 2 bytes"]),
-            ("a hidden header", b"HTTP/1.1 200 OK\r\nAccess-Control-Allow-Origin: *\r\nX-Total: 7\r\nContent-Length: 0\r\n\r\n",
-             {}, ["the page would read it: 200, 0 bytes; the script does not see these headers of the answer: X-Total"]),
+            ("a hidden header",
+             b"HTTP/1.1 200 OK\r\nAccess-Control-Allow-Origin: *\r\nX-Total: 7\r\nContent-Length: 0\r\n\r\n",
+             {}, ["the page would read it: 200, 0 bytes; the script does not see these headers of the answer: "
+                  "X-Total"]),
             ("an answer", bare, {}, [f"{refused}12 CorsCheck: the answer{absent}; send `Access-Control-Allow-Origin: "
                                      "https://shop.test` and `Vary: Origin`"]),
             ("a preflight", bare, dict(method="PUT"), [f"{refused}7 PreflightCors: the answer to the preflight{absent}",
                                                        needs % "OPTIONS", needs % "PUT"]),
-            ("an answer that is cut", BEGUN, {}, ["the page would not read all of it: the body ends before the end that "
-                                                  "its head announced: 2 bytes came, and Content-Length says 9; send all "
-                                                  "of it, and its right length"]),
+            ("an answer that is cut", BEGUN, {}, ["the page would not read all of it: the body ends before the end "
+                                                  "that its head announced: 2 bytes came, and Content-Length says 9; "
+                                                  "send all of it, and its right length"]),
             ("a style without its nonce", bare, dict(load="style", policy=["style-src 'nonce-n1'"]),
              ["the page would not load it: 4 CspRequest: policy 0 has `style-src 'nonce-n1'`, and the element has no "
               "nonce; give the element the nonce `n1`, made anew for each answer; or let policy 0 say `style-src "
@@ -620,9 +642,10 @@ class Checks(base.Checks):
     def check_lints(self, pair: Pair) -> None:
         """What lints find in the words and in an answer is said, once."""
         wrong = b"HTTP/1.1 200 OK\r\nAccess-Control-Allow-Origin: *\r\nStrict-Transport-Security: max-age='1'\r\nContent-Length: 0\r\n\r\n"
-        answered = answered_by(lambda request: wrong, pair, "https://api.test/x", page="https://shop.test/", policy=["conect-src *"],
-                               integrity="sha1-abc", twice=True)
-        told = [[part in note for note in answered.notes()].count(True) for part in ("`conect-src`", "`sha1`", "api.test/x: Strict-")]
+        answered = answered_by(lambda request: wrong, pair, "https://api.test/x", page="https://shop.test/",
+                               policy=["conect-src *"], integrity="sha1-abc", twice=True)
+        told = [[part in note for note in answered.notes()].count(True)
+                for part in ("`conect-src`", "`sha1`", "api.test/x: Strict-")]
         self.compare(f"what lints find: {answered.notes()}", told, [1, 1, 1])
         answered = answered_by(lambda request: coded(b"gzip", packed(TEXT, 31), b"Vary: Origin"), pair,
                                "https://api.test/x", page="https://shop.test/", compressed=True, twice=True)
@@ -637,13 +660,15 @@ class Checks(base.Checks):
             ("no word for the URL", ["/x"], "write it whole"),
             ("a page that is none", [url, "--from", "about:blank"], "no http or https URL of a page"),
             ("a page with a blank in its host", [url, "--from", "https://a b/"], "no http or https URL of a page"),
-            ("a cookie for no URL of a server", ["ftp://a.test/", "--from", url, "--cookie", "a=1"], "leave --cookie out"),
+            ("a cookie for no URL of a server", ["ftp://a.test/", "--from", url, "--cookie", "a=1"],
+             "leave --cookie out"),
             ("a cookie with a line end", [url, "--cookie", "a=1\nb=2"], "--cookie"),
             ("a word that is no UTF-8", [os.fsencode(url) + b"\xff"], "no UTF-8"),
             ("a port that is too great", [url, "--connect-to", "api.test:8443:127.0.0.1:99999"], "at most 65535"),
             ("a word that a load has no use for", [url, "--load", "image", "--method", "PUT"], "--method"),
-            ("a preflight that was copied", ["curl", url, "-X", "OPTIONS", "-H", "Access-Control-Request-Method: PUT", "-H",
-                                             "Origin: https://app.example"], "this is a preflight"),
+            ("a preflight that was copied",
+             ["curl", url, "-X", "OPTIONS", "-H", "Access-Control-Request-Method: PUT", "-H",
+              "Origin: https://app.example"], "this is a preflight"),
             ("a body of no file", [url, "--data", "@" + os.path.join(folder, "none")], "No such file"),
         ]
         for name, words, part in rows:
@@ -653,7 +678,9 @@ class Checks(base.Checks):
         nowhere = {**older, "FIORRUDDA_LIBRARY": "/nowhere"}
         for name, env in [("a library that lacks calls", older), ("no library", nowhere)]:
             told = ran(url, env=env)
-            self.compare(name, (told.returncode, told.stderr.count(b"\n"), b"bin/lib" in told.stderr, b"bin/why --net" in told.stderr),
+            self.compare(name,
+                         (told.returncode, told.stderr.count(b"\n"), b"bin/lib" in told.stderr,
+                          b"bin/why --net" in told.stderr),
                          (2, 1, True, True))
         self.compare("--help without a library", ran("--help", env=nowhere).returncode, 0)
         told = ran("/x", "--from", url, "--cookie", "a=1", "--connect-to", place)
@@ -662,7 +689,8 @@ class Checks(base.Checks):
         with open(body, "wb") as file:
             file.write(b"a\n\xff")
         for data, sent in [(["--data", "@" + body], rb"body 3: a\x0a\xff"), (["--data", "@-"], b"body 2: hi"),
-                           (["--data-raw", "@-"], b"body 2: @-"), (["-d", "a=1", "--data-raw", "b=2"], b"body 7: a=1&b=2"),
+                           (["--data-raw", "@-"], b"body 2: @-"),
+                           (["-d", "a=1", "--data-raw", "b=2"], b"body 7: a=1&b=2"),
                            (["--data-urlencode", "q=a b&c"], b"body 11: q=a%20b%26c")]:
             told = ran(url, "--connect-to", place, "--export", export, *data, input=b"hi")
             self.compare(f"a body by {data}: {told.stdout!r}",
@@ -693,7 +721,8 @@ class Checks(base.Checks):
                 self.compare(f"{first + words}: {told.stdout!r}{told.stderr!r}",
                              (told.returncode, [one for one in lines if "  " + one not in text]), (0, []))
         self.check_left_out(place, url)
-        for words in (["-b", "cookies.txt"], ["-u", "me"], ["--data-urlencode", "q@file"], ["-H", "none"], ["--with-secrets"]):
+        for words in (["-b", "cookies.txt"], ["-u", "me"], ["--data-urlencode", "q@file"], ["-H", "none"],
+                      ["--with-secrets"]):
             told = ran(url, *words)
             self.compare(f"{words}: {told.stderr!r}", (told.returncode, b"Traceback" in told.stderr), (2, False))
 
@@ -706,7 +735,8 @@ class Checks(base.Checks):
         told = ran(url, "--from", "https://app.example/", "--connect-to", place, "--header", "Cookie: a=1",
                    *sum((["--header", name + ": x"] for name in names), []))
         text = told.stdout.decode()
-        self.compare("what no page can set: " + text, (told.returncode, sorted(self.left_out(text))), (0, sorted(names)))
+        self.compare("what no page can set: " + text, (told.returncode, sorted(self.left_out(text))),
+                     (0, sorted(names)))
         self.compare("credentials come first: " + text, self.left_out(text)[:1], ["Proxy-Authorization"])
         self.check_agent(place, url)
         self.compare("a cookie in a header: " + text, "# note: `Cookie` is taken as --cookie\n" in text, True)
@@ -726,12 +756,14 @@ class Checks(base.Checks):
         for words, lines in rows:
             notes = [line[8:] for line in ran(url, "--connect-to", place, *words).stdout.decode().split("\n")
                      if line.startswith("# note: ") and ("without a value" in line or "quote" in line)]
-            self.compare(f"notes of {words}: {notes}", [one[:len(part)] for one, part in zip(notes, lines)] + notes[len(lines):],
-                         lines)
+            self.compare(f"notes of {words}: {notes}",
+                         [one[:len(part)] for one, part in zip(notes, lines)] + notes[len(lines):], lines)
         for origin, count in [("https://app.example", 1), ("https://api.test:8443", 0)]:
-            told = ran(url, "--connect-to", place, *sum((["-H", one] for one in [agent, "origin: " + origin, "dpr: 2", "rtt: 50"]), []))
+            told = ran(url, "--connect-to", place,
+                       *sum((["-H", one] for one in [agent, "origin: " + origin, "dpr: 2", "rtt: 50"]), []))
             self.compare(f"client hints from {origin}: {told.stdout!r}",
-                         told.stdout.count(b"# note: the browser may have added `dpr`, `rtt` by itself (client hints)"), count)
+                         told.stdout.count(b"# note: the browser may have added `dpr`, `rtt` by itself (client hints)"),
+                         count)
 
     def check_agent(self, place: str, url: str) -> None:
         """What browsers make of a script's User-Agent is said once, where a script may set one (Fetch, section 2.2.2:
@@ -748,7 +780,8 @@ class Checks(base.Checks):
     def check_first_words(self, place: str) -> None:
         for words, part in FIRST_WORDS:
             told = ran("--connect-to", place, *words)
-            self.compare(f"{words}: {told}", (told.returncode, told.stdout, part.encode() in told.stderr), (2, b"", True))
+            self.compare(f"{words}: {told}", (told.returncode, told.stdout, part.encode() in told.stderr),
+                         (2, b"", True))
         for url in ("data.json", "v1.2/x", "./api.test/x", "/api.test"):
             told = ran("--connect-to", place, url, "--from", "https://api.test:8443/")
             self.compare(f"{url}: {told.stderr!r}", told.returncode, 0)
@@ -760,7 +793,8 @@ class Checks(base.Checks):
         for words, part in STRAY:
             told = subprocess.run(["bash", "-c", asked + words], stdout=subprocess.PIPE, stderr=subprocess.PIPE)
             text = told.stderr.decode()
-            self.compare(f"{words}: {text}", (told.returncode, told.stdout, part in text, "eyJ" in text), (2, b"", True, False))
+            self.compare(f"{words}: {text}", (told.returncode, told.stdout, part in text, "eyJ" in text),
+                         (2, b"", True, False))
         for own in (["-H", "accept:", "https://api.test:8443/x"],
                     ["--from", "https://api.test:8443/", "x", "--header", "a: b"]):
             told = ran("--connect-to", place, *own)
@@ -794,11 +828,12 @@ class Checks(base.Checks):
         with loopback.Servers(allowed, pair) as servers:
             place = f"api.test:8443:127.0.0.1:{servers.port}"
             put = ["https://api.test:8443/x", "--from", "https://app.example/", "--method", "PUT", "--header",
-                   "Content-Type: application/json", "--data", "{}", "--credentials", "include", "--cookie", "a=1", "--connect-to", place]
+                   "Content-Type: application/json", "--data", "{}", "--credentials", "include", "--cookie", "a=1",
+                   "--connect-to", place]
             told = ran(*put, "--twice", "--export", export, "--with-secrets")
             text = told.stdout.decode()
-            self.compare("a PUT twice: " + text + told.stderr.decode(), (told.returncode, text.count("  OPTIONS /x"), text.count("\nresult cors 200")),
-                         (0, 1, 2))
+            self.compare("a PUT twice: " + text + told.stderr.decode(),
+                         (told.returncode, text.count("  OPTIONS /x"), text.count("\nresult cors 200")), (0, 1, 2))
             self.compare("what is said of SameSite", "SameSite=None" in text, True)
             with open(export, "rb") as file:
                 played = running.played(file.read())
@@ -823,7 +858,8 @@ class Checks(base.Checks):
             self.check_stray(place)
             self.check_glued(place)
             self.check_copied(place)
-            self.compare("a refused one", ran("https://api.test:8443/x", "--from", "https://other.example/", "--connect-to", place).returncode, 1)
+            self.compare("a refused one",
+                         ran("https://api.test:8443/x", "--from", "https://other.example/", "--connect-to", place).returncode, 1)
             for words in ([*put], ["--help"], [*put, "--json"]):
                 self.compare("a closed pipe", pipes.without_reader("ask", *words), b"")
 
@@ -832,12 +868,15 @@ class Checks(base.Checks):
             answered = answered_by(lambda request: answer, pair, "https://api.test/x", page="https://shop.test/")
             result = answered.told.cases[-1].result
             shown = [line for _, own in answered.pieces() for line in own]
-            self.compare(f"{name}: what the page reads", (result.body, result.short(), answered.status()), (TEXT, "cors 200", 0))
+            self.compare(f"{name}: what the page reads", (result.body, result.short(), answered.status()),
+                         (TEXT, "cors 200", 0))
             self.compare(f"{name}: the answer as it came", sum(line.startswith("< Content-Encoding: "
                                                                                "") for line in shown), 1)
-            self.compare(f"{name}: a note: {answered.notes()}", sum("was decoded" in note for note in answered.notes()), 1)
+            self.compare(f"{name}: a note: {answered.notes()}", sum("was decoded" in note for note in answered.notes()),
+                         1)
             own = answered_by(lambda request: answer, pair, "https://api.test/x", page="https://api.test/").told.cases[-1]
-            self.compare(f"{name}: the headers that a page of its own origin reads", own.result.headers, own.head.headers)
+            self.compare(f"{name}: the headers that a page of its own origin reads", own.result.headers,
+                         own.head.headers)
         gzip, digest = packed(TEXT, 31), base64.b64encode(hashlib.sha256(TEXT).digest()).decode()
         exposed = coded(b"gzip", gzip, b"Access-Control-Expose-Headers: Content-Encoding, Transfer-Encoding")
         answered = answered_by(lambda request: exposed, pair, "https://api.test/x", page="https://shop.test/")
@@ -852,14 +891,17 @@ class Checks(base.Checks):
              "body/not-its-coding", 1),
             ("the same of an opaque response", coded(b"gzip", b"hello, there"), dict(mode="no-cors"), "seen/opaque", 1),
             ("chunks with more trailers than are read", coded(b"gzip", in_chunks(gzip)[:-2] + b"t" * 8190 + b"\r\n\r\n",
-                                                              framing=[b"Transfer-Encoding: chunked"]), {}, "seen/body-cut", 1),
+                                                              framing=[b"Transfer-Encoding: chunked"]), {},
+             "seen/body-cut", 1),
             ("a length that is none", coded(b"gzip", gzip, framing=[b"Content-Length: a"]), {}, "seen/body-cut", 1),
             ("two lengths", coded(b"gzip", gzip, framing=[b"Content-Length: 1, 2"]), {}, "body/two-lengths", 1),
             ("a body that breaks off", (coded(b"gzip", gzip)[:-9], "reset"), {}, "seen/body-fault", 3),
-            ("the answer to HEAD", coded(b"gzip", b"", framing=[b"Content-Length: 9"]), dict(method="HEAD"), "cors 200", 0),
+            ("the answer to HEAD", coded(b"gzip", b"", framing=[b"Content-Length: 9"]), dict(method="HEAD"), "cors 200",
+             0),
             ("an opaque response", coded(b"gzip", gzip), dict(mode="no-cors"), "seen/opaque", 1),
             ("the right digest", coded(b"gzip", gzip), dict(integrity="sha256-" + digest), "cors 200", 0),
-            ("another digest", coded(b"gzip", gzip), dict(integrity="sha256-" + "A" * 43 + "="), "integrity/mismatch", 1),
+            ("another digest", coded(b"gzip", gzip), dict(integrity="sha256-" + "A" * 43 + "="), "integrity/mismatch",
+             1),
             ("256 MB of zeros", coded(b"gzip", packed(bytes(1 << 20), 31, 256)), {}, "seen/body-toobig", 0),
         ]
         for name, said, more, way, status in rows:
@@ -880,7 +922,8 @@ class Checks(base.Checks):
         self.check_undecoded(pair)
 
     def check_read_over(self, gzip: bytes) -> None:
-        """What stands behind the data of a coding: Chromium and Firefox read gzip without it, or where it does not fit."""
+        """What stands behind the data of a coding: Chromium and Firefox read gzip without it, or where it does not
+        fit."""
         deflate = packed(TEXT, 15)
         rows = [(b"gzip", gzip[:-8], "the gzip body lacks its trailer"), (b"gzip", gzip[:-3], "lacks its trailer"),
                 (b"gzip", flipped(gzip, 8), "has a checksum that does not fit it"),
@@ -893,21 +936,25 @@ class Checks(base.Checks):
                          (0, TEXT, True))
         for coding, body, parts in [
                 (b"deflate", flipped(deflate, 1), ["the deflate body has a checksum that does not fit it"]),
-                (b"gzip", gzip[:200], ["would not read all of it: the gzip body is cut; Chromium and Firefox take what was"])]:
+                (b"gzip", gzip[:200],
+                 ["would not read all of it: the gzip body is cut; Chromium and Firefox take what was"])]:
             status, _, _, told = told_of(coded(coding, body))
             self.compare(f"not read over: {told}", (status, [part for part in parts if part not in told]), (1, []))
 
     def check_odd_codings(self, gzip: bytes) -> None:
         """Codings that no browser knows, that stand in no list, and that name more, or less, than was done."""
         rows = [
-            (b"foo", gzip, 0, "Content-Encoding says `foo`, which Chromium and Firefox do not decode: the page gets the"),
+            (b"foo", gzip, 0,
+             "Content-Encoding says `foo`, which Chromium and Firefox do not decode: the page gets the"),
             (b"compress, none", gzip, 0, "do not decode: the page gets the bytes as they came"),
-            (b"gzip, foo", gzip, 4, "Chromium gives the page the bytes as they came, and Firefox decodes what it knows"),
+            (b"gzip, foo", gzip, 4,
+             "Chromium gives the page the bytes as they came, and Firefox decodes what it knows"),
             (b'"gzip"', gzip, 4, "Chromium makes such a value a network error"),
             (b"gzip, identity", gzip, 0, "Chromium gives the page the bytes as they came, and Firefox decodes them"),
             (b"gzip, gzip", gzip, 1, "the body is gzip alone, and Content-Encoding says `gzip, gzip`"),
             (b"gzip, gzip", gzip, 1, "change: let Content-Encoding say `gzip` alone: look for a program and a proxy"),
-            (b"gzip", packed(gzip, 31), 0, "the body is still gzip once it is decoded: the page gets it packed; compress it"),
+            (b"gzip", packed(gzip, 31), 0,
+             "the body is still gzip once it is decoded: the page gets it packed; compress it"),
             (b"gzip, gzip", packed(gzip, 31), 0, "the body came as gzip, gzip all the same"),
             (b"br", b"plain text, none of it", 4 if codings.decoder("br") is None else 1, "br"),
         ]
@@ -916,14 +963,16 @@ class Checks(base.Checks):
             self.compare(f"Content-Encoding {coding!r}: {told}", (status, part in told), (wanted, True))
         with without_br():
             status, _, _, told = told_of(coded(b"br", b"?"))
-        parts = ["install Debian's package python3-brotli, or brotli by pip; a browser", "; known without it: the status 200, and "
-                 "that CORS, policies and types let it", "change: install python3-brotli and ask again; or for a verdict"]
+        parts = ["install Debian's package python3-brotli, or brotli by pip; a browser", "; known without it: the "
+                 "status 200, and that CORS, policies and types let it",
+                 "change: install python3-brotli and ask again; or for a verdict"]
         self.compare(f"br: {told}", (status, [part for part in parts if part not in told]), (4, []))
 
     def check_framings(self, gzip: bytes) -> None:
         """A length beside chunks; and two lengths, of which one verdict is told."""
         both = [b"Transfer-Encoding: chunked", b"Content-Length: 5"]
-        for answer in (coded(b"gzip", in_chunks(gzip), framing=both), coded(b"identity", in_chunks(TEXT), framing=both)):
+        for answer in (coded(b"gzip", in_chunks(gzip), framing=both),
+                       coded(b"identity", in_chunks(TEXT), framing=both)):
             status, read, _, told = told_of(answer)
             self.compare(f"a length beside chunks: {told}", (status, read, "(request smuggling, RFC 9112, section "
                                                                            "6.3): take" in told),
@@ -960,7 +1009,8 @@ class Checks(base.Checks):
                 sent.append(request.data)
                 return coded(b"identity", TEXT)
             told = told_of(answer, **words)[3]
-            self.compare(f"what is sent with {words}: {sent}", [b"\r\nAccept-Encoding: %s\r\n" % part in one for one in sent], [True])
+            self.compare(f"what is sent with {words}: {sent}",
+                         [b"\r\nAccept-Encoding: %s\r\n" % part in one for one in sent], [True])
             says = f"`Accept-Encoding: {codings.accepted()}` (--compressed), the codings that are decoded here, and"
             self.compare(f"what is said of --compressed: {told}",
                          (says in told, "a browser sends this server `gzip, deflate`, and br and zstd over" in told),
@@ -977,7 +1027,8 @@ class Checks(base.Checks):
         whole = stored(TEXT)
         rows = [
             ("whole", whole, "cors 200", TEXT, 0), ("with bytes behind its end", whole + b"more", "cors 200", TEXT, 0),
-            ("cut", whole[:-9], "body/coding-cut", None, 1), ("none", b"plain text, none of it", "body/not-its-coding", None, 1),
+            ("cut", whole[:-9], "body/coding-cut", None, 1),
+            ("none", b"plain text, none of it", "body/not-its-coding", None, 1),
             ("empty", b"", "cors 200", b"", 0), ("64 MB of zeros", bomb, "seen/body-toobig", None, 0),
         ]
         with mock.patch.object(codings, "brotli", None):
@@ -989,35 +1040,41 @@ class Checks(base.Checks):
     def check_undecoded(self, pair: Pair) -> None:
         """Codings that nothing here decodes are named, with what is to be installed."""
         with without_br():
-            for coding, part in [(b"br", "br is not decoded here, since there is neither node nor python3's module brotli: "
-                                         "install Debian's package python3-brotli"), (b"zstd", ": zstd is not decoded here; a browser"),
+            for coding, part in [(b"br", "br is not decoded here, since there is neither node nor python3's module "
+                                         "brotli: install Debian's package python3-brotli"),
+                                 (b"zstd", ": zstd is not decoded here; a browser"),
                                  (b"gzip, gzip, gzip, gzip, gzip", "gzip is not decoded here; ")]:
-                answered = answered_by(lambda request: coded(coding, b"?"), pair, "https://api.test/x", page="https://shop.test/")
+                answered = answered_by(lambda request: coded(coding, b"?"), pair, "https://api.test/x",
+                                       page="https://shop.test/")
                 self.compare(f"a coding that nothing here decodes: {coding!r}: {answered.verdict}",
                              (answered.status(), answered.told.cases[-1].result.short(), part in answered.verdict[1]),
                              (4, "23 Coding", True))
             answered = answered_by(lambda request: coded(b"br", b"?"), pair, "https://api.test/x", load="image")
             self.compare(f"an image in br, without its decoder: {answered.notes()}",
-                         (answered.status(), "install Debian's package python3-brotli" in "".join(answered.notes())), (0, True))
+                         (answered.status(), "install Debian's package python3-brotli" in "".join(answered.notes())),
+                         (0, True))
 
     def check_unread(self, pair: Pair, gzip: bytes) -> None:
-        """What an element loads is decided by the engine before its body is read; a fault of the body is one all the same."""
+        """What an element loads is decided by the engine before its body is read; a fault of the body is one all the
+        same."""
         lengths, chunked = [b"Content-Length: 1, 2"], [b"Transfer-Encoding: chunked"]
         cut, not_coded = ("body/coding-cut", "send all of it"), ("body/not-its-coding", "leave Content-Encoding out")
         rows: list[tuple[str, Said, str, str]] = [
             ("a cut body", BEGUN, "seen/body-cut", "2 bytes came, and Content-Length says 9"),
             ("cut chunks", coded(b"identity", b"5\r\nab", framing=chunked), "seen/body-cut", "ends before the end"),
-            ("two lengths", coded(b"identity", b"a", framing=lengths), "body/two-lengths", "two lengths, 1 and 2: both"),
+            ("two lengths", coded(b"identity", b"a", framing=lengths), "body/two-lengths",
+             "two lengths, 1 and 2: both"),
             ("a body that is no gzip", coded(b"gzip", TEXT), *not_coded),
             ("the same in chunks", coded(b"gzip", in_chunks(TEXT), framing=chunked), *not_coded),
             ("the same, on a connection that stays", (coded(b"gzip", TEXT, framing=[]), "hang"), *not_coded),
             ("a gzip that is cut", coded(b"gzip", gzip[:-9]), *cut),
             ("the same, up to the end", coded(b"gzip", gzip[:-9], framing=[]), *cut),
-            ("the length of the text", coded(b"gzip", gzip, framing=[b"Content-Length: %d" % len(TEXT)]), "seen/body-cut",
-             f"let Content-Length say {len(gzip)}"),
+            ("the length of the text", coded(b"gzip", gzip, framing=[b"Content-Length: %d" % len(TEXT)]),
+             "seen/body-cut", f"let Content-Length say {len(gzip)}"),
             ("gzip that its length cuts", coded(b"gzip", gzip, framing=[b"Content-Length: %d" % (len(gzip) - 9)]),
              "body/coding-cut", f"let Content-Length say {len(gzip)}"),
-            ("gzip, said to be deflate", coded(b"deflate", gzip), "body/not-its-coding", "let Content-Encoding say gzip"),
+            ("gzip, said to be deflate", coded(b"deflate", gzip), "body/not-its-coding",
+             "let Content-Encoding say gzip"),
         ]
         for kind, (name, answer, way, part) in itertools.product(["image", "script"], rows):
             typed: Said = with_type(answer, kind)
@@ -1044,19 +1101,21 @@ class Checks(base.Checks):
             answered = answered_by(lambda request: answer, pair, "https://api.test/x", is_endless(answer),
                                    page="https://shop.test/", load="image")
             self.compare(f"a load, {name}: {answered.notes()}",
-                         (answered.status(), way_of(answered), "body" in "".join(answered.notes())), (0, "loaded", False))
-        answered = answered_by(lambda request: coded(b"zstd", gzip, b"Vary: Accept-Encoding"), pair, "https://api.test/x",
-                               page="https://shop.test/", load="image")
+                         (answered.status(), way_of(answered), "body" in "".join(answered.notes())),
+                         (0, "loaded", False))
+        answered = answered_by(lambda request: coded(b"zstd", gzip, b"Vary: Accept-Encoding"), pair,
+                               "https://api.test/x", page="https://shop.test/", load="image")
         self.compare(f"a load, gzip said to be zstd: {answered.notes()}", (answered.status(), answered.notes()[-1:]), (
-            0, ["https://api.test: its body was not read: Content-Encoding says zstd; its first bytes, 1f 8b, are those of gzip"]))
+            0, ["https://api.test: its body was not read: Content-Encoding says zstd; its first bytes, 1f 8b, are "
+                "those of gzip"]))
 
     def check_packed(self, pair: Pair, gzip: bytes) -> None:
         """A note tells of gzip that no Content-Encoding names, but where it is a file that is packed."""
         rows = [
-            ("no coding", "/x", None, gzip, b"application/json", "the answer has no Content-Encoding: the page gets it packed: "
-             "send `Content-Encoding: gzip`"),
-            ("identity", "/x", b"identity", gzip, b"image/png", "Content-Encoding says `identity`: the page gets it packed: "
-             "send `Content-Encoding: gzip` in its place"),
+            ("no coding", "/x", None, gzip, b"application/json", "the answer has no Content-Encoding: the page gets it "
+             "packed: send `Content-Encoding: gzip`"),
+            ("identity", "/x", b"identity", gzip, b"image/png", "Content-Encoding says `identity`: the page gets it "
+             "packed: send `Content-Encoding: gzip` in its place"),
             ("of SVG", "/x.svgz", None, gzip, b"image/svg+xml", "send `Content-Encoding: gzip`"),
             ("no type", "/x", None, gzip, None, "send `Content-Encoding: gzip`"),
             ("its coding", "/x", b"gzip", gzip, b"image/png", None),
@@ -1064,7 +1123,8 @@ class Checks(base.Checks):
             ("a text", "/x", None, TEXT, b"application/json", None),
             ("no body", "/x", None, b"", b"application/json", None),
             *[("a file", "/x", None, gzip, kind, None) for kind in
-              (b"application/gzip", b"Application/X-GZip; a=b", b"application/octet-stream", b"application/tlsrpt+gzip")],
+              (b"application/gzip", b"Application/X-GZip; a=b", b"application/octet-stream",
+               b"application/tlsrpt+gzip")],
             *[("a file", path, None, gzip, b"text/plain", None) for path in ("/x.gz", "/x.tar.gz?a=1", "/X.TGZ")],
         ]
         for load, (name, path, coding, body, kind, part) in itertools.product([None, "image"], rows):
@@ -1076,12 +1136,15 @@ class Checks(base.Checks):
                                    load=load)
             told = [note for note in answered.notes() if "begins as gzip does" in note]
             self.compare(f"packed: {name}, {load}{path}: {answered.notes()}",
-                         (answered.status(), len(told), "".join(told).endswith(part or "")), (0, part is not None, True))
+                         (answered.status(), len(told), "".join(told).endswith(part or "")),
+                         (0, part is not None, True))
             is_first = answered.verdict[1].endswith(" bytes of gzip, which the page gets packed")
-            self.compare(f"packed: {name}, {load}{path}: {answered.verdict[1]}", is_first, not load and part is not None)
+            self.compare(f"packed: {name}, {load}{path}: {answered.verdict[1]}", is_first,
+                         not load and part is not None)
         refused = coded(b"identity", gzip).replace(b"Access-Control-Allow-Origin: *\r\n", b"")
         for answer, mode in [(refused, None), (coded(b"identity", gzip), "no-cors")]:
-            answered = answered_by(lambda request: answer, pair, "https://api.test/x", page="https://shop.test/", mode=mode)
+            answered = answered_by(lambda request: answer, pair, "https://api.test/x", page="https://shop.test/",
+                                   mode=mode)
             self.compare("packed, and not read", [note for note in answered.notes() if "gzip" in note], [])
 
     def check_told_codings(self, gzip: bytes) -> None:
@@ -1095,7 +1158,8 @@ class Checks(base.Checks):
             ("plain bytes", coded(b"gzip", TEXT),
              ["is not gzip, as Content-Encoding says", "leave Content-Encoding out, or compress"],
              ["right length", "1f 8b", "zlib", "Error -3", "incorrect"]),
-            ("a cut coding", coded(b"gzip", gzip[:-9]), ["the gzip body is cut", "header: Content-Encoding"], ["length"]),
+            ("a cut coding", coded(b"gzip", gzip[:-9]), ["the gzip body is cut", "header: Content-Encoding"],
+             ["length"]),
             ("gzip, said to be deflate", coded(b"deflate", gzip), ["1f 8b", "let Content-Encoding say gzip"],
              ["compress it"]),
             ("gzip, said to be zstd", coded(b"zstd", gzip), ["1f 8b", "let Content-Encoding say gzip"],
@@ -1111,12 +1175,15 @@ class Checks(base.Checks):
               f"end it, or let Content-Length say {size}"], []),
             ("another length", coded(b"gzip", gzip, framing=[b"Content-Length: %d" % (size + 3)]),
              [f"{size} bytes came, and Content-Length says {size + 3}"], ["of the text"]),
-            *[(f"a length that is too short{told}", (coded(b"gzip", data, framing=[b"Content-Length: %d" % (size - 9)]), *link),
+            *[(f"a length that is too short{told}",
+               (coded(b"gzip", data, framing=[b"Content-Length: %d" % (size - 9)]), *link),
                ["the gzip body is cut: ", f"Content-Length says {size - 9}", f"header: Content-Length: {size - 9}",
                 f"change: let Content-Length say {wanted}\n"], ["header: Content-Encoding", "send all"])
               for told, data, wanted, link in short],
-            ("a length that is too short, of gzip that is cut", coded(b"gzip", gzip[:-1], framing=[b"Content-Length: 99"]),
-             ["header: Content-Length: 99", "change: leave Content-Length out, or let it say how many bytes there are\n"],
+            ("a length that is too short, of gzip that is cut",
+             coded(b"gzip", gzip[:-1], framing=[b"Content-Length: 99"]),
+             ["header: Content-Length: 99",
+              "change: leave Content-Length out, or let it say how many bytes there are\n"],
              ["send all", "let Content-Length say"]),
             ("two lengths", coded(b"gzip", gzip, framing=[text, b"Content-Length: %d" % size]),
              [f"two lengths, {len(TEXT)} and {size}", "both browsers make that a network error"], ["announced"]),
@@ -1130,7 +1197,8 @@ class Checks(base.Checks):
             self.compare(f"the verdict on a body, {name}: {first}", (is_odd, first.partition(": ")[0]),
                          (False, VERDICTS.get(name, first.partition(": ")[0])))
             self.compare(f"what is said of a body, {name}: {told}",
-                         ([part for part in parts if part not in told], [part for part in others if part in told]), ([], []))
+                         ([part for part in parts if part not in told], [part for part in others if part in told]),
+                         ([], []))
 
     def check_limits(self) -> None:
         """The time limit holds, whatever Python does."""
@@ -1146,7 +1214,8 @@ class Checks(base.Checks):
             self.compare(f"{name}: {took:.1f} s: {reply.verdict}", (reply.status, took < LONG / 2), (3, True))
             self.compare(name + ": what had come", reply.story[1][0], "fetch 0")
         rows: list[tuple[str, list[str], Optional[bytes], int, bytes]] = [
-            ("600,000 chunks of a byte", ["--integrity", "sha256-" + "A" * 43 + "="], b"1\r\na\r\n" * 600000, 1, b"22 Integrity"),
+            ("600,000 chunks of a byte", ["--integrity", "sha256-" + "A" * 43 + "="], b"1\r\na\r\n" * 600000, 1,
+             b"22 Integrity"),
             ("32 MB of chunk extensions", [], (b"1;%s\r\na\r\n" % (b"x" * 4090)) * 8192, 0, b"8192 bytes"),
             ("50,000 heads before the final one", [], None, 1, b"26 HeadTooBig"),
         ]
@@ -1157,19 +1226,24 @@ class Checks(base.Checks):
                 with self.within(name, 5):
                     told = ran("http://api.test/x", "--timeout", "300", "--brief", *words,
                                "--connect-to", f"api.test:80:127.0.0.1:{servers.port}")
-            self.compare(f"{name}: {told.stdout!r}{told.stderr!r}", (told.returncode, part in told.stdout), (status, True))
+            self.compare(f"{name}: {told.stdout!r}{told.stderr!r}", (told.returncode, part in told.stdout),
+                         (status, True))
 
     def check_copied(self, place: str) -> None:
         """What was copied is asked as it was: its page, its cookies, its body; and what browsers add is left out."""
         rows = [
-            ("Chromium", CHROMIUM, 1, ["  GET /x?a=1 HTTP/1.1", "  accept: application/json", "  Origin: https://app.example",
-                                       "  Cookie: sid=7; theme=dark", "result cors 200 https://api.test:8443/x?a=1"],
-             ["cache-control", "pragma", "priority", "sec-ch-ua", "sec-ch-ua-mobile", "sec-ch-ua-platform", "sec-fetch-dest",
-              "sec-fetch-mode", "sec-fetch-site", "user-agent"]),
-            ("Firefox", FIREFOX, 1, ["  GET /x HTTP/1.1", "  Origin: https://app.example", "result cors 200 https://api.test:8443/x"],
-             ["User-Agent", "Accept-Encoding", "Connection", "Sec-Fetch-Dest", "Sec-Fetch-Mode", "Sec-Fetch-Site", "Priority", "TE"]),
-            ("a PUT", PUT, 2, ["  PUT /x HTTP/1.1", "  Access-Control-Request-Headers: content-type", "  Cookie: sid=7; theme=dark",
-                               '  body 21: {"name":"it\'s","n":1}', "result cors 200 https://api.test:8443/x"],
+            ("Chromium", CHROMIUM, 1,
+             ["  GET /x?a=1 HTTP/1.1", "  accept: application/json", "  Origin: https://app.example",
+              "  Cookie: sid=7; theme=dark", "result cors 200 https://api.test:8443/x?a=1"],
+             ["cache-control", "pragma", "priority", "sec-ch-ua", "sec-ch-ua-mobile", "sec-ch-ua-platform",
+              "sec-fetch-dest", "sec-fetch-mode", "sec-fetch-site", "user-agent"]),
+            ("Firefox", FIREFOX, 1,
+             ["  GET /x HTTP/1.1", "  Origin: https://app.example", "result cors 200 https://api.test:8443/x"],
+             ["User-Agent", "Accept-Encoding", "Connection", "Sec-Fetch-Dest", "Sec-Fetch-Mode", "Sec-Fetch-Site",
+              "Priority", "TE"]),
+            ("a PUT", PUT, 2,
+             ["  PUT /x HTTP/1.1", "  Access-Control-Request-Headers: content-type", "  Cookie: sid=7; theme=dark",
+              '  body 21: {"name":"it\'s","n":1}', "result cors 200 https://api.test:8443/x"],
              ["sec-fetch-dest", "sec-fetch-mode", "sec-fetch-site", "user-agent"]),
             ("a font", FONT, 1, ["load 0 font", "result loaded"],
              ["accept", "user-agent", "sec-fetch-dest", "sec-fetch-mode", "sec-fetch-site"]),
@@ -1185,8 +1259,8 @@ class Checks(base.Checks):
                 self.compare(case + ": its lines", [line for line in lines if line not in text], [])
                 self.compare(case + ": what is left out", sorted(self.left_out(told.stdout.decode())), sorted(names))
         for mode, part in [("navigate", " (as a fetch of the page, not the navigation it was)"), ("cors", "")]:
-            told = ran("curl", "https://api.test:8443/x", "-H", "sec-fetch-mode: " + mode, "-H", "sec-fetch-dest: document",
-                       "--brief", "--connect-to", place)
+            told = ran("curl", "https://api.test:8443/x", "-H", "sec-fetch-mode: " + mode, "-H",
+                       "sec-fetch-dest: document", "--brief", "--connect-to", place)
             self.compare("copied from mode " + mode, told.stdout.decode(), f"the page would read it{part}: 200, 2 "
                                                                            "bytes\n")
 
@@ -1202,8 +1276,8 @@ class Checks(base.Checks):
         with loopback.Servers(noting, pair) as servers:
             ends = ["/slow1", "/yes", "/no", "/slow2", "/slow3"]
             words = ["https://api.test" + end for end in ends] + [
-                "--from", "https://shop.test/", "--from-file", name, "--jobs", "5", "--timeout", str(patience), "--connect-to",
-                f"api.test:443:127.0.0.1:{servers.port}"]
+                "--from", "https://shop.test/", "--from-file", name, "--jobs", "5", "--timeout", str(patience),
+                "--connect-to", f"api.test:443:127.0.0.1:{servers.port}"]
             told = ran(*words)
             text = told.stdout.decode()
             # One after another the last of three that are not answered is asked after the time limit of two.
@@ -1213,8 +1287,8 @@ class Checks(base.Checks):
             self.compare("their order", headings, ["https://api.test" + end for end in ends] + ["data:text/plain,hi"])
             as_data = json.loads(ran(*words, "--json").stdout)
             self.compare("several URLs as JSON", [(one["url"][-5:], one["status"], one["outcome"]) for one in as_data],
-                         [("slow1", 3, "no answer"), ("t/yes", 0, "read"), ("st/no", 1, "not read"), ("slow2", 3, "no answer"),
-                          ("slow3", 3, "no answer"), ("in,hi", 4, "no verdict")])
+                         [("slow1", 3, "no answer"), ("t/yes", 0, "read"), ("st/no", 1, "not read"),
+                          ("slow2", 3, "no answer"), ("slow3", 3, "no answer"), ("in,hi", 4, "no verdict")])
             brief = ran(*words, "--brief").stdout.decode().splitlines()
             self.compare("several URLs in brief", brief[1:3],
                          ["https://api.test/yes: the page would read it: 200, 2 bytes",
@@ -1228,7 +1302,8 @@ class Checks(base.Checks):
             self.compare("the verdict comes first", text.partition("\n")[0], "# the page would read it: 200, 2 bytes")
             told = ran(words[0], "about:blank", *words[-2:])
             self.compare(f"one that is wrong among several: {told.stdout!r}",
-                         (told.returncode, b"wrong words: " in told.stdout, b"basic 200" in told.stdout), (2, True, True))
+                         (told.returncode, b"wrong words: " in told.stdout, b"basic 200" in told.stdout),
+                         (2, True, True))
             self.compare("a word that takes one URL", ran(*words, "--export", name).returncode, 2)
 
     def check_undecided(self, pair: Pair) -> None:
@@ -1257,35 +1332,45 @@ class Checks(base.Checks):
         self.compare("--hsts with another word", ran("http://api.test/", "--hsts", "a.test,all").returncode, 2)
 
     def check_books(self, pair: Pair, folder: str) -> None:
-        """Of the hosts that a book knows each upgrade is told its own, and a URL that stays http why (RFC 6797, section 8.2: a
-        host, or one above it with includeSubDomains). What is exported has those of its sites alone, and plays the same."""
+        """Of the hosts that a book knows each upgrade is told its own, and a URL that stays http why (RFC 6797, section
+        8.2: a host, or one above it with includeSubDomains). What is exported has those of its sites alone, and plays
+        the same."""
         name, exported = os.path.join(folder, "known.book"), os.path.join(folder, "known.json")
         far, own = 9999999999, "is a known host (HSTS)"
         rows = [
-            ([("shop.test", 1, far)], "img.shop.test", f"shop.test {own} with its subdomains, which covers img.shop.test", True),
-            ([("img.shop.test", 0, far), ("shop.test", 1, far)], "img.shop.test", "its host is a known one (HSTS)", True),
-            ([("shop.test", 0, far)], "img.shop.test", f"shop.test {own}, but without includeSubDomains, which would cover", False),
-            ([("img.shop.test", 1, far)], "shop.test", f"img.shop.test {own}, and shop.test is neither that nor below it", False),
-            ([("shop.test", 1, 9)], "shop.test", "shop.test was a known host (HSTS) until second 9, and it is second 1", False),
+            ([("shop.test", 1, far)], "img.shop.test",
+             f"shop.test {own} with its subdomains, which covers img.shop.test", True),
+            ([("img.shop.test", 0, far), ("shop.test", 1, far)], "img.shop.test", "its host is a known one (HSTS)",
+             True),
+            ([("shop.test", 0, far)], "img.shop.test",
+             f"shop.test {own}, but without includeSubDomains, which would cover", False),
+            ([("img.shop.test", 1, far)], "shop.test",
+             f"img.shop.test {own}, and shop.test is neither that nor below it", False),
+            ([("shop.test", 1, 9)], "shop.test", "shop.test was a known host (HSTS) until second 9, and it is second 1",
+             False),
             ([("h.test", 1, far)], "shop.test", "", False),
         ]
         for hosts, host, part, is_upgraded in rows:
             with open(name, "w", encoding="utf-8") as file:
-                lines = [f"{until} {is_wide} {len(known)}:{known}\n" for known, is_wide, until in [*hosts, ("zz.other", 1, far)]]
+                lines = [f"{until} {is_wide} {len(known)}:{known}\n"
+                         for known, is_wide, until in [*hosts, ("zz.other", 1, far)]]
                 file.write("".join(["fiorrudda book 1\n", f"hosts {len(lines)}\n", *lines, "entries 0\n"]))
             with loopback.Servers(plain, pair) as servers:
                 url = f"http://{host}/x"
                 words = given(url, page="http://cdn.test/", connect_to=places(servers), book=name, export=exported)
                 one = asked.answered(words, url)
                 data, case = one.export.data(), one.told.cases[0]
-            self.compare(f"--book {hosts}, {host}: {case.notes}", [part in note for note in case.notes], [True] * bool(part))
+            self.compare(f"--book {hosts}, {host}: {case.notes}", [part in note for note in case.notes],
+                         [True] * bool(part))
             self.compare(f"--book {hosts}, {host}: asked", case.chain[0][0].origin, f"http{'s' * is_upgraded}://{host}")
             self.compare(f"--book {hosts}: another site is exported", b"zz.other" in data, False)
             told = running.played(data)
-            self.compare(f"--book {hosts}: its export plays {told}", f"\nsend http{'s' * is_upgraded}://{host}\n" in told, True)
+            self.compare(f"--book {hosts}: its export plays {told}",
+                         f"\nsend http{'s' * is_upgraded}://{host}\n" in told, True)
 
     def check_local_networks(self) -> None:
-        """A page of the internet that asks this machine is told what Chromium does then, once; one of this machine is not."""
+        """A page of the internet that asks this machine is told what Chromium does then, once; one of this machine is
+        not."""
         for page, count in [("http://shop.test/", 1), ("http://localhost/", 0)]:
             with loopback.Servers(plain) as servers:
                 answered = asked_of(f"http://127.0.0.1:{servers.port}/x", page=page, twice=True)
@@ -1318,11 +1403,13 @@ class Checks(base.Checks):
                 with open(path(name), "rb") as written:
                     data = written.read()
                 case = f"--export {name}: {told.stdout + told.stderr!r}"
-                self.compare(case, (told.returncode, [b"sekret%d" % number in data for number in (1, 2, 3, 4)]), (0, [is_there] * 4))
+                self.compare(case, (told.returncode, [b"sekret%d" % number in data for number in (1, 2, 3, 4)]),
+                             (0, [is_there] * 4))
                 self.compare(case + ": its mode", stat.S_IMODE(os.stat(path(name)).st_mode), 0o600)
                 self.compare(case + ": it plays", "\nresult cors 200 " in running.played(data), True)
         self.compare("as long as they were", os.path.getsize(path("masked")), os.path.getsize(path("whole")))
-        self.compare("nothing beside it", [name for name in os.listdir(folder) if name.startswith(("masked.", "whole."))], [])
+        self.compare("nothing beside it",
+                     [name for name in os.listdir(folder) if name.startswith(("masked.", "whole."))], [])
 
 
 def main() -> int:

@@ -139,8 +139,8 @@ class Checks(base.Checks):
             self.compare(f"{headers}, asked with {options}: {told}", says, [True] if wanted else [])
 
     def test_whole_values(self) -> None:
-        """What is advised for a value of Strict-Transport-Security keeps what it says besides, and has no fault; it is said
-        once."""
+        """What is advised for a value of Strict-Transport-Security keeps what it says besides, and has no fault; it is
+        said once."""
         for value, *right in lint_cases.HSTS_MEANT:
             found = found_in(json.dumps(lint_cases.hsts(value)))
             own = [one.sentence for one in found if not one.lint.name.startswith("hsts/preload")]
@@ -149,7 +149,8 @@ class Checks(base.Checks):
             for one in right:
                 left = set(names_in(lint_cases.hsts(one)))
                 self.compare(f"{one}: what is left", sorted(left - set(names_in(lint_cases.hsts(value)))), [])
-        data = lint_cases.hsts("max-age=\u00e2\u0080\u009c600\u00e2\u0080\u009d")  # as the bytes of a real answer are read
+        # as the bytes of a real answer are read
+        data = lint_cases.hsts("max-age=\u00e2\u0080\u009c600\u00e2\u0080\u009d")
         self.compare("quotes that came as bytes", names_in(data), ["hsts/typographic-quotes"])
         for value, name in lint_cases.HSTS_JOINED.items():
             self.compare(value, names_in(lint_cases.hsts(value)), [name])
@@ -201,7 +202,8 @@ class Checks(base.Checks):
                      sorted({*DIRECTIVES, *(f"'{one}'" for one in KEYWORDS)} - words), [])
 
     def test_misspelt(self) -> None:
-        """Each directive with a letter too few, and each keyword so and without its quotes, is told with the right word."""
+        """Each directive with a letter too few, and each keyword so and without its quotes, is told with the right
+        word."""
         for name in DIRECTIVES:
             wrong = name[:3] + name[4:]
             told = policy_lints(f"{wrong} 'self'; font-src 'self'")
@@ -227,7 +229,8 @@ class Checks(base.Checks):
         """A comma that is meant for a semicolon, and where it is told; two policies that are meant are left."""
         for value, name in lint_cases.COMMAS.items():
             text = json.dumps(csp_of(value))
-            told = [(text[place - 2:place], finding) for place, finding in lints.in_scenario(Scenario(json_text.read(text)))
+            told = [(text[place - 2:place], finding)
+                    for place, finding in lints.in_scenario(Scenario(json_text.read(text)))
                     if place is not None and finding.lint.name == "csp/comma-for-semicolon"]
             self.compare(value + ": where", [before for before, _ in told], [", "] if name else [])
             for _, finding in told:
@@ -246,12 +249,14 @@ class Checks(base.Checks):
             places = [place for place, finding in lints.in_scenario(Scenario(json_text.read(text)))
                       if finding.lint.name in ("csp/keyword-unquoted", "csp/name-behind-source")]
             words = [text[place:].split()[0].strip(",;\\\"") for place in places]
-            self.compare(f"places of words, in ASCII: {is_ascii}", (words, len(set(places))), (["self", "self", "img-src"], 3))
+            self.compare(f"places of words, in ASCII: {is_ascii}", (words, len(set(places))),
+                         (["self", "self", "img-src"], 3))
 
     # ---- what is meant
 
     def test_mending(self) -> None:
-        """Each lint of a policy is mended, or has a reason why not; then none is left. Nothing that is right changes."""
+        """Each lint of a policy is mended, or has a reason why not; then none is left. Nothing that is right
+        changes."""
         names = {lint.name for lint in lints.table() if lint.name.startswith("csp/") and not lint.is_note}
         known = set(lint_cases.UNMENDED)
         self.compare("reasons of lints that are none", sorted(known - names), [])
@@ -310,7 +315,8 @@ class Checks(base.Checks):
                 server = {"origin": cases.PAGE, "rules": [cases.rule(200, body="another")]}
                 passes = played({**data, "servers": [server]}).cases[0].result.type == "basic"
                 is_blank = data["documents"][0]["script"][0]["fetch"]["integrity"].isspace()
-                self.compare(name + ": another body passes", passes, is_blank or "integrity/nothing-fits" in names_in(data))
+                self.compare(name + ": another body passes", passes,
+                             is_blank or "integrity/nothing-fits" in names_in(data))
 
     # ---- stored scenarios, and what costs much
 
@@ -360,7 +366,8 @@ class Checks(base.Checks):
         self.compare(f"bin/why: the lint, the header and the URL: {told[:1]}", both, (True, True))
         warnings = json.loads(ran("why", "--json", input=json.dumps(data).encode()).stdout)["warnings"]
         self.compare("--json", ["`script-scr`" in one["sentence"] for one in warnings], [True])
-        self.compare("--json: the lint, the header and the URL", [(one["lint"], one["header"], one["url"]) for one in warnings],
+        self.compare("--json: the lint, the header and the URL",
+                     [(one["lint"], one["header"], one["url"]) for one in warnings],
                      [("csp/unknown-directive", cases.POLICY, PAGE + "/")])
         told = ran("why", "--lints").stdout.decode().splitlines()
         names = [lint.name for lint in lints.table()]
@@ -373,8 +380,10 @@ class Checks(base.Checks):
         head = b"HTTP/1.1 200 OK\r\nAccess-Control-Allow-Origin: %s\r\nContent-Length: 0\r\n%s\r\n"
         with net_peers.Peer(head % (b"https://shop.test", b"")) as peer:
             told = ran("why", "--net", input=json.dumps(peer.scenario()).encode()).stdout.decode()
-            self.compare("bin/why --net: " + told, "# warning: https://api.test/x: Access-Control-Allow-Origin: " in told
-                         and "send `Vary: Origin` with every answer of this URL, also a refusal (cors/vary-missing)\n" in told,
+            self.compare("bin/why --net: " + told,
+                         "# warning: https://api.test/x: Access-Control-Allow-Origin: " in told
+                         and "send `Vary: Origin` with every answer of this URL, also a refusal "
+                             "(cors/vary-missing)\n" in told,
                          True)
         with net_peers.Peer(head % (b"https://shop.test", b"vary: Accept, Origin\r\n")) as peer:
             told = ran("why", "--net", input=json.dumps(peer.scenario()).encode()).stdout.decode()

@@ -114,8 +114,8 @@ def processor_time(words: list[str], environment: Mapping[str, str]) -> float:
 
 
 def one_call(compare: Compare) -> None:
-    """At most 0.12 s, or on a slower machine more by as much, or six times what an empty python takes: of nine runs each
-    the cheapest one, which what else runs there has made dearer the least. The first run keeps what it compiles,
+    """At most 0.12 s, or on a slower machine more by as much, or six times what an empty python takes: of nine runs
+    each the cheapest one, which what else runs there has made dearer the least. The first run keeps what it compiles,
     wherever it may be kept elsewhere."""
     words = [os.path.join(ROOT, "bin", "why"), os.path.join(ROOT, "gallery", "star-with-credentials")]
     with tempfile.TemporaryDirectory() as kept:

@@ -392,7 +392,8 @@ CODING_CASES = {"coding/vary-missing": (answer(GZIP, ["Vary", "Origin"]),
 STATUS_CASES = {"status/not-modified-unasked": (
     cases.scenario(cases.fetch(), [cases.rule(304, [cases.OK])]),
     cases.scenario(cases.fetch(headers=[["If-None-Match", '"1"']]),
-                   [cases.rule(204, [cases.OK, [HEADERS, "if-none-match"]], method="OPTIONS"), cases.rule(304, [cases.OK])]))}
+                   [cases.rule(204, [cases.OK, [HEADERS, "if-none-match"]], method="OPTIONS"),
+                    cases.rule(304, [cases.OK])]))}
 CASES = {**CSP_HEADERS, **CSP_DIRECTIVES, **CSP_WORDS, **CSP_URLS, **NOTES, **CORS_ORIGINS, **CORS_VALUES, **HSTS_CASES,
          **REFERRER_CASES, **FRAMING_CASES, **CODING_CASES, **INTEGRITY_CASES,
          **STATUS_CASES}

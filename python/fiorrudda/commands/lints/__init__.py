@@ -105,7 +105,7 @@ class Place:
         value = node.items[int(finding.at)].items[0 if finding.is_name else 1]
         if finding.start is not None:
             return value.place_of(finding.start)
-        part = finding.text and re.search(r'(?<![^\s;,"])%s(?![^\s;,"])' % re.escape(finding.text), value.text)
+        part = finding.text and re.search(rf'(?<![^\s;,"]){re.escape(finding.text)}(?![^\s;,"])', value.text)
         return value.start + (part.start() if part else 0)
 
 
@@ -269,7 +269,7 @@ def noted(told_play: Told) -> list[tuple[str, Any]]:
 
 
 def told_once(rows: Sequence[tuple[str, Any]]) -> list[tuple[str, Any]]:
-    """Of pairs of a line and of what slip it is those that are told: of many that are alike two, and the second says
-    how many more there are."""
+    """The lines that are told, among pairs of a line and its slip: two of many that are alike, and the second says how
+    many more there are."""
     found = zip(rows, ends([slip for _, slip in rows]))
     return [(line + end, slip) for (line, slip), end in found if end is not None]

@@ -44,7 +44,7 @@ def is_twice(field: Field) -> bool:
 
 def with_path(field: Field) -> Found:
     found = re.fullmatch(WHOLE.pattern + r"[/?#][^\s,;|]*", field.value)
-    return found and "*" not in found.group(2) and "%s://%s" % found.groups()
+    return found and "*" not in found.group(2) and f"{found.group(1)}://{found.group(2)}"
 
 
 def in_capitals(field: Field) -> Found:
@@ -55,7 +55,7 @@ def in_capitals(field: Field) -> Found:
 
 def without_scheme(field: Field) -> Found:
     host = r"[A-Za-z0-9-]+(?:\.[A-Za-z0-9-]+)+(?::\d+)?|[A-Za-z0-9-]+:\d+|localhost"
-    found = re.fullmatch(r"(?://)?(%s)/?" % host, field.value)
+    found = re.fullmatch(rf"(?://)?({host})/?", field.value)
     return found and "https://" + found.group(1)
 
 

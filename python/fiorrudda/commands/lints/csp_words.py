@@ -275,7 +275,8 @@ def wildcard_inside(word: Word) -> Found:
 
 
 def with_star_in_front(text: str) -> str | None:
-    """`*.` and the domain behind the label that has the star, where that is no top level; else behind the star itself."""
+    """`*.` and the domain behind the label that has the star, where that is no top level; else behind the star
+    itself."""
     behind_label, behind_star = (re.fullmatch(r"(.*://)?" + form + r"([^/:*]+\.[^/:*]+)([:/].*)?", text)
                                  for form in (r"[^/:]*\*[^./:]*\.", r"\*"))
     found = behind_label or behind_star
@@ -284,7 +285,8 @@ def with_star_in_front(text: str) -> str | None:
 
 def wildcard_scheme(word: Word) -> Found:
     found = re.match(r"\*:/*(.*)", word.text)
-    return bool(found) and not re.fullmatch(r"\*:(\d+|\*)(/.*)?", word.text) and "https://" + (there(found).group(1) or "*")
+    is_port = re.fullmatch(r"\*:(\d+|\*)(/.*)?", word.text) is not None
+    return found is not None and not is_port and "https://" + (found.group(1) or "*")
 
 
 def wildcard_path(word: Word) -> Found:
@@ -343,7 +345,7 @@ def star_behind_scheme(word: Word) -> Found:
 
 def one_slash(word: Word) -> Found:
     found = re.fullmatch(r"(https?|wss?):/?([^/].*)", word.text, re.I)
-    return found and "%s://%s" % found.groups()
+    return found and f"{found.group(1)}://{found.group(2)}"
 
 
 def other_address(word: Word) -> bool:
@@ -416,7 +418,7 @@ def meant_source(word: Word) -> str | None:
     inner = re.sub(r"%27|&#39;?|&quot;?|[()\[\]{}<>]", "", text)
     if inner.lower() in grammar.KEYWORDS:
         return quoted(inner.lower())
-    for form, meant in ((r"(https?|wss?)//+(.+)", r"\1://\2"), (r"//(.+)", r"%s://\1" % word.policy.headers.scheme),
+    for form, meant in ((r"(https?|wss?)//+(.+)", r"\1://\2"), (r"//(.+)", rf"{word.policy.headers.scheme}://\1"),
                         (r"([a-z]+://)[^/@]*@(.+)", r"\1\2"), (r"\.?(/.*)", page + r"\1")):
         found = re.fullmatch(form, text, re.I)
         if found and grammar.HOST.fullmatch(found.expand(meant)):

@@ -56,8 +56,8 @@ SCHEME = re.compile(r"[A-Za-z][A-Za-z0-9+.-]*:")
 HOST = re.compile(r"(?:(?P<scheme>[A-Za-z][A-Za-z0-9+.-]*)://)?"
                   r"(?P<host>\*|(?:\*\.)?[A-Za-z0-9-]+(?:\.[A-Za-z0-9-]+)*\.?)"
                   r"(?::(?P<port>[0-9]+|\*))?(?P<path>/.*)?")
-BYTE = r"(?:[A-Za-z0-9._~!$&'()*+=:@%s-]|%%[0-9A-Fa-f]{2})"
-PATH = re.compile("/(?:%s%s*)?" % (BYTE % "", BYTE % "/"))
+SIGNS, ESCAPE = "A-Za-z0-9._~!$&'()*+=:@", "%[0-9A-Fa-f]{2}"
+PATH = re.compile(f"/(?:(?:[{SIGNS}-]|{ESCAPE})(?:[{SIGNS}/-]|{ESCAPE})*)?")
 
 # Names of directives that no other word has; one of them at the end of a word; and hosts that end where one may: in a
 # top level, or that of this machine.
@@ -65,7 +65,7 @@ NAMES = tuple(name for name in DIRECTIVES if "-" in name)
 NAME_AT_END = re.compile(f"(.+?)({'|'.join(NAMES)})", re.I)
 WHOLE_HOST = re.compile(r"\*|localhost|\d+(?:\.\d+){3}|.*\.(?:[a-z]{2,}|xn--[a-z0-9-]+)", re.I)
 # Sources that are no hosts: in quotes, schemes; and words of directives that take no sources.
-WHOLE_SOURCE = re.compile(r"'[^']+'|\*|[a-z][a-z0-9+-]*:|%s" % "|".join(SANDBOX + NO_WORDS), re.I)
+WHOLE_SOURCE = re.compile(rf"'[^']+'|\*|[a-z][a-z0-9+-]*:|{'|'.join(SANDBOX + NO_WORDS)}", re.I)
 
 
 def before_name(word: str) -> str:
@@ -98,4 +98,4 @@ def is_digest(algorithm: str, value: str) -> bool:
 
 def is_hex(algorithm: str, value: str) -> bool:
     """Whether a text is the digest of an algorithm in hexadecimal digits."""
-    return re.fullmatch(r"[0-9a-fA-F]{%d}" % (2 * DIGESTS[algorithm.lower()]), value) is not None
+    return len(value) == 2 * DIGESTS[algorithm.lower()] and re.fullmatch(r"[0-9a-fA-F]+", value) is not None

@@ -21,7 +21,7 @@ if TYPE_CHECKING:
 
 HEADER = "Strict-Transport-Security"
 LATE = 9999999999  # a second of the year 2286
-TYPOGRAPHIC = "[%s]" % QUOTES.strip("\"'`")
+TYPOGRAPHIC = "[" + QUOTES.strip("\"'`") + "]"
 # The text of a value, and the whole value as it was meant; and what else is said of some.
 Meant = namedtuple("Meant", "text whole other", defaults=[""])
 
@@ -275,8 +275,8 @@ TABLE = [
          "take `preload` out until all below the host is served over https; then write `{meant}`"),
     Lint("hsts/preload-short", HEADER, preload_short,
          "the list of preloaded hosts takes none with a max-age under a year{meant.other}",
-         "take `preload` out: first all below the host is served over https, then comes includeSubDomains, then a longer "
-         "max-age, and last write `{meant.whole}`, or a longer time"),
+         "take `preload` out: first all below the host is served over https, then comes includeSubDomains, then a "
+         "longer max-age, and last write `{meant.whole}`, or a longer time"),
     Lint("hsts/header-misspelt", "a header's name", misspelt, "`{it.header}` is no header that a browser reads",
          "write `Strict-Transport-Security`", (ANSWER,)),
     Lint("hsts/on-the-page", "a header's name", on_page, "a play does not read `{it.header}` of a page",

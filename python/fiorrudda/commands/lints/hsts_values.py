@@ -17,7 +17,7 @@ KNOWN = ("max-age", "includesubdomains", "preload")
 SPELT = {"max-age": "max-age", "includesubdomains": "includeSubDomains", "preload": "preload"}
 YEAR, MONTH, MOST = 31536000, 2592000, 4294967295
 TOKEN = r"[!#$%&'*+\-.^_`|~0-9A-Za-z]+"
-PART = r"[ \t]*(?:%s[ \t]*(?:=[ \t]*(?:%s|\"(?:[^\"\\]|\\.)*\")[ \t]*)?)?" % (TOKEN, TOKEN)
+PART = rf"[ \t]*(?:{TOKEN}[ \t]*(?:=[ \t]*(?:{TOKEN}|\"(?:[^\"\\]|\\.)*\")[ \t]*)?)?"
 FIELD = re.compile(PART + "(?:;" + PART + ")*")
 QUOTED = re.compile(r'"(?:[^"\\]|\\.)*"')
 CLOSED = re.compile(r'(?:[^"]+|"(?:[^"\\]|\\.)*")*')  # up to a quote that does not close, behind which none does
@@ -35,7 +35,7 @@ UNITS = {
 AMOUNT = re.compile(
     r"\+?\s*(\d+(?:\s*\*\s*\d+)+|0x[0-9a-f]+|\d{1,3}(?:[,_']\d{3})+(?!\d)|\d{1,3}(?:\.\d{3}){2,}(?!\d)"
     r"|\d+(?:\.\d+)?(?:e\d{1,2}(?!\d))?)(?:\s*([a-z]+)(?![\w=-]))?", re.I)
-AGE = re.compile(r"max[-_ ]?age[%s]*\s*[=:]?[\s%s]*" % (QUOTES, QUOTES), re.I)
+AGE = re.compile(rf"max[-_ ]?age[{QUOTES}]*\s*[=:]?[\s{QUOTES}]*", re.I)
 LONGEST = 15  # digits of a number that is converted
 # What was meant by a max-age: its text, its seconds as a text, those of months where `m` may be that, or None, and
 # whether it has a unit.

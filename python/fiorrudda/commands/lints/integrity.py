@@ -52,7 +52,7 @@ def other_spelling(options: Options) -> Found:
 
 
 def without_dash(options: Options) -> Found:
-    found = token(options, r"(sha256|sha384|sha512)([:=_ ]?)(?!-)(%s)" % VALUE)
+    found = token(options, rf"(sha256|sha384|sha512)([:=_ ]?)(?!-)({VALUE})")
     return found and found.group(1) + "-"
 
 

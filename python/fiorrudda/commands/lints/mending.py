@@ -72,7 +72,8 @@ def with_slash(word: Word, meant: Any) -> list[str]:
 
 def in_base64(word: Word, meant: Any) -> list[str]:
     algorithm, digits = there(grammar.HASH.fullmatch(word.inner or "")).groups()
-    return ["'%s-%s'" % (algorithm, base64.b64encode(bytes.fromhex(digits)).decode("ascii"))]
+    value = base64.b64encode(bytes.fromhex(digits)).decode("ascii")
+    return [f"'{algorithm}-{value}'"]
 
 
 def with_wildcard_in_front(word: Word, meant: Any) -> list[str] | None:
@@ -86,7 +87,7 @@ def of_webrtc(word: Word, meant: Any) -> list[str] | None:
 
 
 def of_scripts(word: Word, meant: Any) -> list[str] | None:
-    """Of default-src the directive is mended."""
+    """A word of default-src is left: its directive is mended."""
     return None if word.directive.name == "default-src" else []
 
 

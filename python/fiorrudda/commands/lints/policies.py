@@ -205,7 +205,8 @@ class Directive:
 
     @functools.cached_property
     def split_urls(self) -> dict[int, str]:
-        """By the place of a scheme with its slashes that a blank parts from the host behind it the URL that is meant."""
+        """By the place of a scheme with its slashes that a blank parts from the host behind it the URL that is
+        meant."""
         found = {}
         for word, host in zip(self.words, self.words[1:]):
             scheme = SCHEME_ALONE.fullmatch(word.text)

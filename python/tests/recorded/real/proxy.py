@@ -38,7 +38,8 @@ def proxy(room: str, *words: str) -> Iterator[int]:
     log = os.path.join(room, "mitmdump.log")
     with open(log, "wb") as file:
         process = subprocess.Popen(["mitmdump", "--listen-host", "127.0.0.1", "-p", str(port), "--set",
-                                    f"confdir={room}", *words], stdout=file, stderr=file, env={**os.environ, "PYTHONPATH": OWN})
+                                    f"confdir={room}", *words], stdout=file, stderr=file,
+                                   env={**os.environ, "PYTHONPATH": OWN})
     try:
         wait_until(lambda: is_open(port) or process.poll() is not None, "mitmdump")
         if process.poll() is not None:
