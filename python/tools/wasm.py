@@ -117,7 +117,7 @@ def lowered(made: pathlib.Path) -> None:
     if optimiser is None:
         built.fail("wasm-opt is not on the PATH: it comes with binaryen (Debian: apt install binaryen)")
     features = [f"--enable-{it}" for it in FEATURES]
-    built.run([optimiser, *features, "--memory64-lowering", "-O3", made, "-o", made])
+    built.run([optimiser, *features, "--memory64-lowering", "-O3", "-Oz", made, "-o", made])
 
 
 def make_module(made: pathlib.Path, room: pathlib.Path, jobs: int) -> None:
