@@ -296,13 +296,12 @@ class Session {
     await this.visit(page);
   }
 
-  // Marionette answers once the document has ended, which it never does here: a navigation is over once its page is the
-  // one that scripts run in.
+  // Marionette answers once the document has ended, which it never does here: a navigation is over once its page, which its
+  // title tells from one of the same URL before it, is the one that scripts run in.
   async visit(page) {
     this.browser.ask("WebDriver:Navigate", { url: page.url.href }).catch(() => null);
     for (let until = Date.now() + PATIENCE; Date.now() < until;) {
-      const there = await this.browser.value("document.title !== '' && location.href").catch(() => null);
-      if (there === page.url.href) {
+      if (await this.browser.value("document.title").catch(() => null) === page.title) {
         return;
       }
       if (this.browser.ended !== null) {
@@ -344,4 +343,4 @@ class Session {
   }
 }
 
-module.exports = { find, start: (program, servers, authority) => new Firefox(program, servers, authority) };
+module.exports = { find, start: (program, servers, authority) => new Firefox(program, servers, authority), Session };
