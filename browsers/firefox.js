@@ -16,6 +16,9 @@ const NAMES = process.env.FIREFOX ? [process.env.FIREFOX] : ["firefox-esr", "fir
 const PATIENCE = 600000; // milliseconds
 const START = 600000; // milliseconds until Marionette must listen, and greet
 const SETTLE = 60; // milliseconds until the last events of a command are there
+const PAUSE = 20; // milliseconds between two looks at what the browser does by itself
+
+const paused = () => new Promise((resolve) => setTimeout(resolve, PAUSE));
 
 function versionOf(name) {
   const ran = spawnSync(name, ["--version"], { encoding: "utf8", timeout: START });
@@ -128,7 +131,7 @@ class Firefox {
       if (fs.existsSync(file) && fs.readFileSync(file, "utf8").trim() !== "") {
         return Number(fs.readFileSync(file, "utf8"));
       }
-      await new Promise((resolve) => setTimeout(resolve, 20));
+      await paused();
     }
     throw new Error("firefox does not start: it did not listen within " + START / 1000 + " s");
   }
@@ -270,6 +273,7 @@ class Session {
         await this.show(handle);
         return;
       }
+      await paused();
     }
     throw new Error("firefox opens no tab");
   }
@@ -307,7 +311,7 @@ class Session {
       if (this.browser.ended !== null) {
         throw new Error("firefox: " + this.browser.ended);
       }
-      await new Promise((resolve) => setTimeout(resolve, 10));
+      await paused();
     }
     throw new Error("firefox does not open " + page.url.href);
   }
