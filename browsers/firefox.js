@@ -52,7 +52,12 @@ function giveCookie(host, name, value, secure, userContextId) {
   Services.cookies.add(host, "/", name, value, secure, false, false, inAYear, { userContextId }, sameSite, scheme);
 }
 
-// A tab of a container that was never used: it has cookies, known hosts and caches of its own.
+// Known hosts are of all containers.
+function forgetKnownHosts() {
+  Cc["@mozilla.org/ssservice;1"].getService(Ci.nsISiteSecurityService).clearAll();
+}
+
+// A tab of a container that was never used: it has cookies and caches of its own.
 function openTab(userContextId) {
   const triggeringPrincipal = Services.scriptSecurityManager.getSystemPrincipal();
   gBrowser.selectedTab = gBrowser.addTab("about:blank", { userContextId, triggeringPrincipal });
@@ -207,10 +212,11 @@ class Firefox {
     return value;
   }
 
-  // A page in a container of its own.
+  // A page in a container of its own, to which no host is known.
   async session() {
     this.started = this.started || this.start();
     await this.started;
+    await this.inBrowser(forgetKnownHosts);
     this.containers += 1;
     return this.tab(100 + this.containers);
   }
