@@ -16,6 +16,9 @@ const NAMES = process.env.FIREFOX ? [process.env.FIREFOX] : ["firefox-esr", "fir
 const PATIENCE = 600000; // milliseconds
 const START = 600000; // milliseconds until Marionette must listen, and greet
 const SETTLE = 60; // milliseconds until the last events of a command are there
+const PAUSE = 20; // milliseconds between two looks at what the browser does by itself
+
+const paused = () => new Promise((resolve) => setTimeout(resolve, PAUSE));
 
 function versionOf(name) {
   const ran = spawnSync(name, ["--version"], { encoding: "utf8", timeout: START });
@@ -49,7 +52,12 @@ function giveCookie(host, name, value, secure, userContextId) {
   Services.cookies.add(host, "/", name, value, secure, false, false, inAYear, { userContextId }, sameSite, scheme);
 }
 
-// A tab of a container that was never used: it has cookies, known hosts and caches of its own.
+// Known hosts are of all containers.
+function forgetKnownHosts() {
+  Cc["@mozilla.org/ssservice;1"].getService(Ci.nsISiteSecurityService).clearAll();
+}
+
+// A tab of a container that was never used: it has cookies and caches of its own.
 function openTab(userContextId) {
   const triggeringPrincipal = Services.scriptSecurityManager.getSystemPrincipal();
   gBrowser.selectedTab = gBrowser.addTab("about:blank", { userContextId, triggeringPrincipal });
@@ -128,7 +136,7 @@ class Firefox {
       if (fs.existsSync(file) && fs.readFileSync(file, "utf8").trim() !== "") {
         return Number(fs.readFileSync(file, "utf8"));
       }
-      await new Promise((resolve) => setTimeout(resolve, 20));
+      await paused();
     }
     throw new Error("firefox does not start: it did not listen within " + START / 1000 + " s");
   }
@@ -204,10 +212,11 @@ class Firefox {
     return value;
   }
 
-  // A page in a container of its own.
+  // A page in a container of its own, to which no host is known.
   async session() {
     this.started = this.started || this.start();
     await this.started;
+    await this.inBrowser(forgetKnownHosts);
     this.containers += 1;
     return this.tab(100 + this.containers);
   }
@@ -270,6 +279,7 @@ class Session {
         await this.show(handle);
         return;
       }
+      await paused();
     }
     throw new Error("firefox opens no tab");
   }
@@ -296,19 +306,18 @@ class Session {
     await this.visit(page);
   }
 
-  // Marionette answers once the document has ended, which it never does here: a navigation is over once its page is the
-  // one that scripts run in.
+  // Marionette answers once the document has ended, which it never does here: a navigation is over once its page, which its
+  // title tells from one of the same URL before it, is the one that scripts run in.
   async visit(page) {
     this.browser.ask("WebDriver:Navigate", { url: page.url.href }).catch(() => null);
     for (let until = Date.now() + PATIENCE; Date.now() < until;) {
-      const there = await this.browser.value("document.title !== '' && location.href").catch(() => null);
-      if (there === page.url.href) {
+      if (await this.browser.value("document.title").catch(() => null) === page.title) {
         return;
       }
       if (this.browser.ended !== null) {
         throw new Error("firefox: " + this.browser.ended);
       }
-      await new Promise((resolve) => setTimeout(resolve, 10));
+      await paused();
     }
     throw new Error("firefox does not open " + page.url.href);
   }
@@ -344,4 +353,4 @@ class Session {
   }
 }
 
-module.exports = { find, start: (program, servers, authority) => new Firefox(program, servers, authority) };
+module.exports = { find, start: (program, servers, authority) => new Firefox(program, servers, authority), Session };

@@ -82,11 +82,13 @@ function bytesOf(rule) {
   return Buffer.from(textOf(rule, isUncached(rule) ? UNCACHED : ""), "utf8");
 }
 
-// A page whose document stays open, so that what is appended to it later is read by the browser's parser.
+// A page whose document stays open, so that what is appended to it later is read by the browser's parser. Its title is that of
+// no other: a tab may come from a page of the same URL.
 class Page {
-  constructor(url, headers) {
+  constructor(url, headers, number) {
     this.url = new URL(url);
     this.headers = headers;
+    this.title = "page " + number + " of a scenario";
     this.socket = null;
   }
 
@@ -100,7 +102,7 @@ class Page {
     const lines = this.headers.map(([name, value]) => name + ": " + value + "\r\n").join("");
     socket.write("HTTP/1.1 200 OK\r\n" + lines + "Content-Type: text/html; charset=utf-8\r\nCache-Control: no-store\r\n"
       + "Transfer-Encoding: chunked\r\nConnection: close\r\n\r\n");
-    this.append("<!doctype html><title>a document of a scenario</title><body>\n" + " ".repeat(2000) + "\n");
+    this.append("<!doctype html><title>" + this.title + "</title><body>\n" + " ".repeat(2000) + "\n");
   }
 
   append(text) {
@@ -113,6 +115,7 @@ class Servers {
   constructor(authority) {
     this.authority = authority;
     this.sockets = new Set();
+    this.expected = 0; // pages, of all scenarios
     this.secure = tls.createServer({ ALPNProtocols: ["http/1.1"],
       SNICallback: (name, done) => done(null, tls.createSecureContext(authority.contextOf([name]))) });
     this.secure.on("secureConnection", (socket) => this.serve(socket, "https"));
@@ -222,7 +225,8 @@ class Servers {
   }
 
   expect(url, headers) {
-    const page = new Page(url, headers);
+    this.expected += 1;
+    const page = new Page(url, headers, this.expected);
     this.pages.push(page);
     return page;
   }
