@@ -42,8 +42,8 @@ test("the size", async (context) => {
   const ready = spawnSync(process.execPath, ["--input-type=module", "-e", "const begun = performance.now();"
     + " await import(" + JSON.stringify(pathToFileURL(path.join(BUILT, "index.js")).href) + ");"
     + " console.log(performance.now() - begun)"], { encoding: "utf8" });
-  context.diagnostic("the module has " + bytes.length + " bytes, " + small + " by brotli, " + packed + " by gzip, and is ready in "
-    + Math.round(Number(ready.stdout)) + " ms");
+  context.diagnostic("the module has " + bytes.length + " bytes, " + small + " by brotli, " + packed
+    + " by gzip, and is ready in " + Math.round(Number(ready.stdout)) + " ms");
 });
 
 test("the declarations", { skip: without("tsc") }, async (context) => {
