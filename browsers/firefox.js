@@ -306,8 +306,8 @@ class Session {
     await this.visit(page);
   }
 
-  // Marionette answers once the document has ended, which it never does here: a navigation is over once its page, which its
-  // title tells from one of the same URL before it, is the one that scripts run in.
+  // Marionette answers once the document has ended, which it never does here: a navigation is over once its page is the
+  // one that scripts run in. Its title tells it from a page of the same URL before it.
   async visit(page) {
     this.browser.ask("WebDriver:Navigate", { url: page.url.href }).catch(() => null);
     for (let until = Date.now() + PATIENCE; Date.now() < until;) {

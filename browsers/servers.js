@@ -82,8 +82,8 @@ function bytesOf(rule) {
   return Buffer.from(textOf(rule, isUncached(rule) ? UNCACHED : ""), "utf8");
 }
 
-// A page whose document stays open, so that what is appended to it later is read by the browser's parser. Its title is that of
-// no other: a tab may come from a page of the same URL.
+// A page whose document stays open, so that what is appended to it later is read by the browser's parser. No other has
+// its title: a tab may come from a page of the same URL.
 class Page {
   constructor(url, headers, number) {
     this.url = new URL(url);
