@@ -386,7 +386,8 @@ ANSWERS = [
     Way("no-verdict/coded", "23", lambda c: not c.is_cut_coded,
         "no verdict: the body is coded, and this engine decodes none (requests say `Accept-Encoding: identity`); a "
         "browser would, and CORS, policies and types let it", "Content-Encoding",
-        "for a verdict here send the body uncoded, and {change}; a browser needs no change", BODY,
+        "for a verdict here send the body uncoded, and {change}; where the body is of that coding, a browser needs no "
+        "change", BODY,
         changes.uncoded),
 ]
 

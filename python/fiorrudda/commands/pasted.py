@@ -180,12 +180,13 @@ class Said:
     # ---- cookies
 
     def take_cookies(self) -> None:
-        """All cookies; those that were copied went along, so the request was one that takes credentials along."""
+        """All cookies; those that were copied went along, so the request was one that takes credentials along. As with
+        curl, a header that names some stands for those of -b."""
         given = self.given
         copied = [value for name, value in self.pairs if name.lower() == "cookie"]
         if copied:
             self.note("`Cookie` is taken as --cookie")
-        self.cookies = [*given.cookie, *given.pasted, *copied]
+        self.cookies = [*given.cookie, *(copied or given.pasted)]
         for note in filter(None, map(of_cookies, self.cookies)):
             self.note(note)
         self.credentials = given.credentials
