@@ -3,6 +3,7 @@ pub mod Asked
 pub mod Calls
 pub mod Choices
 pub mod Clients
+pub mod Numbers
 pub mod Referrers
 pub mod Sts
 pub mod Terms

@@ -9,7 +9,10 @@ mod clients;
 mod free;
 mod headers;
 mod hosts;
+mod laws;
 mod origins;
 mod policies;
 mod requests;
 mod rules;
+
+pub use laws::law_numbers;

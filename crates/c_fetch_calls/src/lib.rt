@@ -5,6 +5,8 @@
 mod fetches;
 mod inputs;
 mod judging;
+mod laws;
 mod parts;
 
 pub use inputs::Said;
+pub use laws::law_numbers;

@@ -1,4 +1,5 @@
 pub mod Answers
 pub mod Checks
 pub mod Headers
+pub mod Numbers
 pub mod Preflights

@@ -6,5 +6,8 @@ mod answers;
 mod checks;
 mod found;
 mod headers;
+mod laws;
 mod policies;
 mod preflights;
+
+pub use laws::law_numbers;
