@@ -38,13 +38,21 @@ PASSED_FIRST = "once the preflight passes, "
 
 def notes(case: Case) -> list[str]:
     """All of them, in sentences, each once."""
-    return list(dict.fromkeys([*dropped(case), *upgrades(case), *plain(case)]))
+    return list(dict.fromkeys([*dropped(case), *left_behind(case), *upgrades(case), *plain(case)]))
 
 
 def dropped(case: Case) -> Iterable[str]:
     if case.command.is_load or case.result.is_fault:
         return []
     return guards.notes(case.command.headers, case.command.options["mode"])
+
+
+def left_behind(case: Case) -> Iterator[str]:
+    """That Authorization stays behind where a redirect leads to another origin."""
+    sent = [request for request, _ in case.chain]
+    for one, next_one in zip(sent, sent[1:]):
+        if header_of(one, "Authorization") and not header_of(next_one, "Authorization"):
+            yield f"Authorization did not go on to {next_one.origin}: a redirect to another origin drops it"
 
 
 def upgrades(case: Case) -> Iterator[str]:

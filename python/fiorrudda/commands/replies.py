@@ -55,9 +55,10 @@ def reply_of(one: Any) -> Reply:
     status, sentence = one.verdict
     in_all = verdicts.in_all(one.told.cases[-1]) + verdicts.hosts_in_all(one.told)
     story, found = list(one.pieces()), lints.noted(one.told)
+    besides = [came for came in verdicts.besides(verdicts.decisive(one.told.cases)) if came not in sentence]
+    besides += [] if one.question.said.page else [asked.OWN_ORIGIN]
     return Reply(status, sentence, story, one.notes(), [], {"fetches": one.told.data()}, in_all,
-                 [name for _, (name, _, _) in found], verdicts.to_change(one.told.cases),
-                 [came for came in verdicts.besides(verdicts.decisive(one.told.cases)) if came not in sentence])
+                 [name for _, (name, _, _) in found], verdicts.to_change(one.told.cases), besides)
 
 
 def late(one: Any) -> Reply:

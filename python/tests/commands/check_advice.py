@@ -743,6 +743,18 @@ class Checks(base.Checks):
             self.compare(f"{name}: {value} in mode {mode} is kept", bool(kept), is_sent)
             self.compare(f"{name}: {value} asks for a preflight", guards.unsafe_names(kept), [asked] if asked else [])
 
+    def test_what_stays_behind(self) -> None:
+        """Authorization goes on within an origin, and not to another; each is said once."""
+        allowed = [["Access-Control-Allow-Origin", "*"], ["Access-Control-Allow-Headers", "authorization"]]
+        for where, wanted in (("https://b.test/y", ["Authorization did not go on to https://b.test: a redirect to "
+                                                    "another origin drops it"]), ("https://a.test/y", [])):
+            led = {"path": "/x", "method": "GET", "status": 302, "headers": [["Location", where], *allowed]}
+            data = {"format": 1, "servers": [{"origin": origin, "rules": [led, {"status": 200, "headers": allowed}]}
+                                             for origin in ("https://a.test", "https://b.test")],
+                    "documents": [{"url": "https://page.test/", "script": [
+                        {"fetch": {"url": "https://a.test/x", "headers": [["Authorization", "Bearer 1"]]}}]}]}
+            self.compare(f"a redirect to {where}", case_of(data).notes, wanted)
+
     def test_local_networks(self) -> None:
         """A public page's first request to this machine or a local network is told (Local Network Access, section
         2)."""

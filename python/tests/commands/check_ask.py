@@ -638,6 +638,9 @@ class Checks(base.Checks):
             lines = replies.brief_lines(replies.reply_of(answered))
             begin = [line[:len(part)] if part.endswith(" needs ") else line for line, part in zip(lines, wanted)]
             self.compare(f"in brief, {name}: {lines}", begin + lines[len(wanted):], wanted)
+        answered = answered_by(lambda request: plain(None), pair, "https://api.test/x", page=None)
+        self.compare("in brief, without a page", replies.brief_lines(replies.reply_of(answered)),
+                     [f"the page would read it: 200, 2 bytes; {asked.OWN_ORIGIN}"])
 
     def check_lints(self, pair: Pair) -> None:
         """What lints find in the words and in an answer is said, once."""
@@ -1261,8 +1264,8 @@ class Checks(base.Checks):
         for mode, part in [("navigate", " (as a fetch of the page, not the navigation it was)"), ("cors", "")]:
             told = ran("curl", "https://api.test:8443/x", "-H", "sec-fetch-mode: " + mode, "-H",
                        "sec-fetch-dest: document", "--brief", "--connect-to", place)
-            self.compare("copied from mode " + mode, told.stdout.decode(), f"the page would read it{part}: 200, 2 "
-                                                                           "bytes\n")
+            self.compare("copied from mode " + mode, told.stdout.decode(),
+                         f"the page would read it{part}: 200, 2 bytes; {asked.OWN_ORIGIN}\n")
 
     def check_many(self, pair: Pair, folder: str) -> None:
         name, patience = os.path.join(folder, "urls"), 10
