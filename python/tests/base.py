@@ -69,6 +69,9 @@ def main(name: str, module: str, words: Optional[list[str]] = None) -> int:
     result = unittest.main(module, argv=[name, *(sys.argv[1:] if words is None else words)], exit=False).result
     for _, reason in result.skipped:
         print(f"{name}: left out: {reason}", file=sys.stderr)
+    if result.testsRun == 0:
+        print(f"{name}: no test has such a name", file=sys.stderr)
+        return 1
     if result.wasSuccessful():
         print(f"{name}: {'; '.join(COUNTED) or 'as it should be'}")
     return 0 if result.wasSuccessful() else 1
