@@ -3,9 +3,10 @@ use Rattle.std.specs.Prelude.{◌≡◌, ℕ, ◌^◌, Bool, true, false, nat_lt
 use Rattle.fetch_acts.specs.declared.act.Act.TheVariants as act
 use Rattle.c_handle.specs.declared.thing.Thing.TheVariants as thing
 use Rattle.c_fetch_calls.specs.Terms.{Act, Amount, Asked, BadHeader, IsKept, IsNotHeld, IsTextTold, NO, NO_REQUEST}
-use Rattle.c_fetch_calls.specs.Terms.{NO_SUCH_NUMBER, OK, Outcome, Part, Refusal, Session, Setup, Standing, TOO_LATE, Text}
-use Rattle.c_fetch_calls.specs.Terms.{TextBy, Thing, TypeFault, WRONG_HANDLE, act_of, amount_of, begun_as, both, fault_number}
-use Rattle.c_fetch_calls.specs.Terms.{held_client, held_fetch, held_request, outcome_of, request_of, standing_of, text_of}
+use Rattle.c_fetch_calls.specs.Terms.{NO_SUCH_NUMBER, OK, Outcome, Part, Refusal, Session, Setup, Standing, TOO_LATE}
+use Rattle.c_fetch_calls.specs.Terms.{Text, TextBy, Thing, TypeFault, WRONG_HANDLE, act_of, amount_of, begun_as, both}
+use Rattle.c_fetch_calls.specs.Terms.{fault_number, held_client, held_fetch, held_request, outcome_of, request_of}
+use Rattle.c_fetch_calls.specs.Terms.{standing_of, text_of}
 
 -- ---- the beginning
 

@@ -3,9 +3,9 @@ use Rattle.std.specs.Prelude.{◌≡◌, ℕ, ◌==◌, Option, Some, None, if�
 use Rattle.fetch_acts.specs.declared.act.Input.TheVariants as input
 use Rattle.fetch_session.specs.declared.session.Went.TheVariants as went
 use Rattle.c_handle.specs.declared.thing.Thing.TheVariants as thing
-use Rattle.c_fetch_calls.specs.Terms.{Asks, Book, BookAfter, Done, Ends, Fails, Fed, NOT_AWAITED, NO_SUCH_NUMBER, No, OK}
-use Rattle.c_fetch_calls.specs.Terms.{OUT_OF_MEMORY, Reply, Session, Standing, Takes, Text, Thing, WRONG_HANDLE, Went, Yes}
-use Rattle.c_fetch_calls.specs.Terms.{act_of, both, held_book, held_fetch, standing_of}
+use Rattle.c_fetch_calls.specs.Terms.{Asks, Book, BookAfter, Done, Ends, Fails, Fed, NOT_AWAITED, NO_SUCH_NUMBER, No}
+use Rattle.c_fetch_calls.specs.Terms.{OK, OUT_OF_MEMORY, Reply, Session, Standing, Takes, Text, Thing, WRONG_HANDLE}
+use Rattle.c_fetch_calls.specs.Terms.{Went, Yes, act_of, both, held_book, held_fetch, standing_of}
 use Rattle.c_fetch_calls.specs.declared.inputs.Said.{Said}
 use Rattle.c_fetch_calls.specs.declared.inputs.Said.TheVariants as said
 

@@ -32,7 +32,7 @@ pub record IsRefusedAt (place room after : Text) (len code : ℕ) : Type 0 where
   pub refused : written_code ≡ OK → code ≡ NO
   pub short : written_code ≡ TOO_SHORT → code ≡ TOO_SHORT
 
--- what is told of the scenario that the bytes are, or of the place at which they are refused
-abbrev pub IsPlayed : Result Scenario Place → Text → Text → ℕ → ℕ → Type 0
-IsPlayed (Ok scenario) = IsPrinted (IsTextInOrder scenario)
-IsPlayed (Err place) = IsRefusedAt place.text
+-- such a text of the scenario that the bytes are is told, or the place at which they are refused
+abbrev pub IsTold : (Scenario → Text → Type 0) → Result Scenario Place → Text → Text → ℕ → ℕ → Type 0
+IsTold IsText (Ok scenario) = IsPrinted (IsText scenario)
+IsTold IsText (Err place) = IsRefusedAt place.text

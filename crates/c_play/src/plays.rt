@@ -1,7 +1,7 @@
 // A scenario, played and printed.
 ghost use Rattle.std.specs.Prelude.{◌≡◌, ◌≢◌, IfOk};
 ghost use Rattle.c_handle.specs.Codes.{IsKept};
-ghost use Rattle.c_play.specs.Plays.{IsPlayed, IsRefusedAt, IsTextInOrder};
+ghost use Rattle.c_play.specs.Plays.{IsRefusedAt, IsTextInOrder, IsTold};
 ghost use Rattle.script_reading.specs.Scenarios.{scenario_of};
 ghost use Rattle.script_scenarios.specs.Valid.{IsValid};
 
@@ -52,7 +52,8 @@ pub extern "C" fn fiorrudda_play(
     room: &mut [u8],
     len: &mut usize,
 ) -> u32
-    ensures told { result ≢ OUT_OF_MEMORY → IsPlayed (scenario_of scenario.now) room.old room.new len.new result }
+    ensures told { result ≢ OUT_OF_MEMORY
+        → IsTold IsTextInOrder (scenario_of scenario.now) room.old room.new len.new result }
     ensures out_of_memory { result ≡ OUT_OF_MEMORY → IsKept room.old room.new len.old len.new }
 {
     let scenario = match read_scenario(alloc, scenario) {

@@ -1,7 +1,8 @@
 // A scenario, played with the reports of its documents, and printed.
 ghost use Rattle.std.specs.Prelude.{◌≡◌, ◌≢◌, IfOk};
 ghost use Rattle.c_handle.specs.Codes.{IsKept};
-ghost use Rattle.c_play.specs.Reports.{IsReportTextInOrder, IsReported};
+ghost use Rattle.c_play.specs.Plays.{IsTold};
+ghost use Rattle.c_play.specs.Reports.{IsReportTextInOrder};
 ghost use Rattle.program_cspreport.specs.Scenarios.{reported_scenario};
 ghost use Rattle.script_scenarios.specs.Valid.{IsValid};
 
@@ -32,8 +33,9 @@ fn reported(alloc: Global, scenario: &Scenario) -> Result<GrowingText, OutOfMemo
 /// call with too little room plays too, and the next call plays again.
 ///
 /// `OK`; `NO` where the scenario is refused, and then `room` has the place: `json`, or the way from the root to the
-/// value, which is `/documents` where there are too many; `TOO_SHORT` where `room` has less than `len` bytes for either;
-/// `OUT_OF_MEMORY`. Except for `OK` and `NO` nothing is written to `room`, and with `OUT_OF_MEMORY` nothing to `len`.
+/// value, which is `/documents` where there are too many; `TOO_SHORT` where `room` has less than `len` bytes for
+/// either; `OUT_OF_MEMORY`. Except for `OK` and `NO` nothing is written to `room`, and with `OUT_OF_MEMORY` nothing to
+/// `len`.
 #[unsafe(no_mangle)]
 pub extern "C" fn fiorrudda_reports(
     alloc: Global,
@@ -41,7 +43,8 @@ pub extern "C" fn fiorrudda_reports(
     room: &mut [u8],
     len: &mut usize,
 ) -> u32
-    ensures told { result ≢ OUT_OF_MEMORY → IsReported (reported_scenario scenario.now) room.old room.new len.new result }
+    ensures told { result ≢ OUT_OF_MEMORY
+        → IsTold IsReportTextInOrder (reported_scenario scenario.now) room.old room.new len.new result }
     ensures out_of_memory { result ≡ OUT_OF_MEMORY → IsKept room.old room.new len.old len.new }
 {
     let scenario = match read_reported(alloc, scenario) {
